@@ -7,3 +7,4 @@ pub mod desk;
 pub mod options;
 pub mod play;
 pub mod record;
+pub mod trace;

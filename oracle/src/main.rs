@@ -6,11 +6,12 @@ use std::process::ExitCode;
 use judge::desk::Desk;
 use judge::options::Options;
 use judge::play::play;
+use judge::trace::trace;
 
 /// Exit status of a refusal; what was wrong stands in one line on standard error.
 const REFUSED: u8 = 2;
 
-const COMMANDS: &str = "play";
+const COMMANDS: &str = "play or trace";
 
 fn main() -> ExitCode {
     let words: Result<Vec<String>, _> = std::env::args_os()
@@ -41,6 +42,10 @@ fn obey(words: &[String]) -> Result<(), String> {
         "play" => {
             let pools = read(&["--nodes", "--cells"], &[])?.pools()?;
             play(&mut Desk::new(pools), input, output)
+        }
+        "trace" => {
+            let pools = read(&["--nodes", "--cells"], &[])?.pools()?;
+            trace(&mut Desk::new(pools), input, output)
         }
         _ => Err(format!("{command} isn't a command: give {COMMANDS}")),
     }
