@@ -4,7 +4,10 @@
 //! makes inputs; `leaves` and `requests` do the same for single functions.
 
 pub mod desk;
+pub mod ground;
+pub mod history;
 pub mod options;
 pub mod play;
 pub mod record;
+pub mod seed;
 pub mod trace;

@@ -1,17 +1,18 @@
 //! The program: one command, its options, standard input to standard output.
 
-use std::io::{self, BufWriter};
+use std::io::{self, BufWriter, Write};
 use std::process::ExitCode;
 
 use judge::desk::Desk;
+use judge::history::{history, Kind};
 use judge::options::Options;
-use judge::play::play;
+use judge::play::{play, unwritable};
 use judge::trace::trace;
 
 /// Exit status of a refusal; what was wrong stands in one line on standard error.
 const REFUSED: u8 = 2;
 
-const COMMANDS: &str = "play or trace";
+const COMMANDS: &str = "play, trace or history";
 
 fn main() -> ExitCode {
     let words: Result<Vec<String>, _> = std::env::args_os()
@@ -47,6 +48,26 @@ fn obey(words: &[String]) -> Result<(), String> {
             let pools = read(&["--nodes", "--cells"], &[])?.pools()?;
             trace(&mut Desk::new(pools), input, output)
         }
+        "history" => {
+            let valued = ["--seed", "--kind", "--count", "--nodes", "--cells"];
+            write(output, &history_of(&read(&valued, &[])?)?)
+        }
         _ => Err(format!("{command} isn't a command: give {COMMANDS}")),
     }
+}
+
+fn history_of(options: &Options) -> Result<Vec<u8>, String> {
+    let name = options.word("--kind")?;
+    let kind = Kind::named(name).ok_or_else(|| {
+        let names = Kind::ALL.map(|(name, _)| name).join(", ");
+        format!("history: --kind {name} isn't known: give one of {names}")
+    })?;
+    let seed = options.number("--seed")?;
+    let count = options.number("--count")? as usize;
+    Ok(history(kind, seed, count, options.pools()?).concat())
+}
+
+fn write(mut output: impl Write, bytes: &[u8]) -> Result<(), String> {
+    let written = output.write_all(bytes).and_then(|()| output.flush());
+    written.map_err(unwritable)
 }
