@@ -6,8 +6,10 @@
 pub mod desk;
 pub mod ground;
 pub mod history;
+pub mod leaves;
 pub mod options;
 pub mod play;
 pub mod record;
+pub mod requests;
 pub mod seed;
 pub mod trace;

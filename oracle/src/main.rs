@@ -1,18 +1,20 @@
 //! The program: one command, its options, standard input to standard output.
 
-use std::io::{self, BufWriter, Write};
+use std::io::{self, BufWriter, Read, Write};
 use std::process::ExitCode;
 
 use judge::desk::Desk;
 use judge::history::{history, Kind};
+use judge::leaves::answer_all;
 use judge::options::Options;
 use judge::play::{play, unwritable};
+use judge::requests::{requests, Lengths};
 use judge::trace::trace;
 
 /// Exit status of a refusal; what was wrong stands in one line on standard error.
 const REFUSED: u8 = 2;
 
-const COMMANDS: &str = "play, trace or history";
+const COMMANDS: &str = "play, trace, history, leaves or leaf-requests";
 
 fn main() -> ExitCode {
     let words: Result<Vec<String>, _> = std::env::args_os()
@@ -52,6 +54,14 @@ fn obey(words: &[String]) -> Result<(), String> {
             let valued = ["--seed", "--kind", "--count", "--nodes", "--cells"];
             write(output, &history_of(&read(&valued, &[])?)?)
         }
+        "leaves" => {
+            read(&[], &[])?;
+            write(output, &answer_all(&whole(input)?)?)
+        }
+        "leaf-requests" => {
+            let options = read(&["--seed", "--keys"], &["--outside"])?;
+            write(output, &requests_of(&options)?)
+        }
         _ => Err(format!("{command} isn't a command: give {COMMANDS}")),
     }
 }
@@ -65,6 +75,25 @@ fn history_of(options: &Options) -> Result<Vec<u8>, String> {
     let seed = options.number("--seed")?;
     let count = options.number("--count")? as usize;
     Ok(history(kind, seed, count, options.pools()?).concat())
+}
+
+fn requests_of(options: &Options) -> Result<Vec<u8>, String> {
+    let lengths = if options.has("--outside") {
+        Lengths::Past
+    } else {
+        Lengths::Inside
+    };
+    let keys = u32::try_from(options.number("--keys")?)
+        .map_err(|_| format!("leaf-requests: --keys is too large: give 0 to {}", u32::MAX))?;
+    let made = requests(options.number("--seed")?, keys, lengths);
+    Ok(made.iter().flat_map(|request| request.encode()).collect())
+}
+
+fn whole(mut input: impl Read) -> Result<Vec<u8>, String> {
+    let mut bytes = Vec::new();
+    let read = input.read_to_end(&mut bytes);
+    read.map_err(|e| format!("cannot read the requests from standard input: {e}"))?;
+    Ok(bytes)
 }
 
 fn write(mut output: impl Write, bytes: &[u8]) -> Result<(), String> {
