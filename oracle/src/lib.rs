@@ -11,5 +11,6 @@ pub mod options;
 pub mod play;
 pub mod record;
 pub mod requests;
+pub mod sample;
 pub mod seed;
 pub mod trace;

@@ -1,6 +1,7 @@
 //! The program: one command, its options, standard input to standard output.
 
 use std::io::{self, BufWriter, Read, Write};
+use std::path::Path;
 use std::process::ExitCode;
 
 use judge::desk::Desk;
@@ -9,12 +10,13 @@ use judge::leaves::answer_all;
 use judge::options::Options;
 use judge::play::{play, unwritable};
 use judge::requests::{requests, Lengths};
+use judge::sample::sample;
 use judge::trace::trace;
 
 /// Exit status of a refusal; what was wrong stands in one line on standard error.
 const REFUSED: u8 = 2;
 
-const COMMANDS: &str = "play, trace, history, leaves or leaf-requests";
+const COMMANDS: &str = "play, trace, history, leaves, leaf-requests or sample";
 
 fn main() -> ExitCode {
     let words: Result<Vec<String>, _> = std::env::args_os()
@@ -62,6 +64,7 @@ fn obey(words: &[String]) -> Result<(), String> {
             let options = read(&["--seed", "--keys"], &["--outside"])?;
             write(output, &requests_of(&options)?)
         }
+        "sample" => sample(Path::new(read(&["--out"], &[])?.word("--out")?)),
         _ => Err(format!("{command} isn't a command: give {COMMANDS}")),
     }
 }
