@@ -1,0 +1,3 @@
+pub mod Masking
+pub mod Covering
+pub mod Ordering
