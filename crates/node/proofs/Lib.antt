@@ -1,0 +1,4 @@
+pub mod HasBits
+pub mod Masks
+pub mod Matches
+pub mod MatchBits
