@@ -1,7 +1,7 @@
 -- Laws of the free list's sections: laid end to end, apart from each other, and long enough for every block of the pool. Assumes nothing.
 use mathlib.Core.Path.{_≡_, refl, ap, ap₂, _∙_}
 use mathlib.Core.Logic.{_⊎_, inl, inr}
-use mathlib.Core.List.{List, [], _∷_}
+use mathlib.Core.List.{List}
 use Prim.Native.Nat.{ℕ, zero, suc, _+_, _*_, _/_, _^_, _≤_, _<_}
 use native.Mathlib.Nat.{le-trans, le-of-suc-le-suc, not-suc-le-zero, mul-le-mul-left, mul-le-mul-right, div-le-self, div-mul-le-self, le-div-iff-mul-le, le-suc-iff, suc-mul}
 use native.Mathlib.Decide.{decLt}

@@ -10,7 +10,7 @@ ghost use Rattle.tiers.specs.Tiers.{spacings, dataSpacings, childSpacing
 pub const POOL_MAX: u32 = 65_536;
 
 // The index that means "no block".
-const EMPTY: u32 = 4_294_967_295;
+pub const EMPTY: u32 = 4_294_967_295;
 
 // Where a block of nodes starts in the node pool.
 pub struct NodeAt(pub u32);

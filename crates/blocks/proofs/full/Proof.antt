@@ -1,0 +1,29 @@
+-- `blocks::full` meets its contract: the product fits, and the test is that of the contract. Assumes nothing.
+use native.Mathlib.Omega.{arith}
+use Rattle.blocks.proofs.Ways.{product}
+use borrow.Author.Needs.{needs}
+use Rattle.blocks.proofs.full.Statement.{statement}
+use Rattle.blocks.proofs.full.Tie as tie
+
+wide-requires : tie.Need-wide-requires
+wide-requires c κs = search needs
+
+wide-requires-2 : tie.Need-wide-requires-2
+wide-requires-2 c κs = search needs
+
+add-result : tie.Need-add-result
+add-result c = search needs
+
+wide-requires-3 : tie.Need-wide-requires-3
+wide-requires-3 c κs = search needs
+
+mul-result : tie.Need-mul-result
+mul-result c = record { fits = product _ (c .wide3 .result) (omega arith) (omega arith) }
+
+returns : tie.Need-returns
+returns c = simp ((c .before .before .wide .ensures), (c .before .wide2 .ensures), (c .wide3 .ensures))
+
+pub full-spec : {M : Type 1} → statement M
+full-spec =
+    tie.close
+    (tie.spec wide-requires wide-requires-2 add-result wide-requires-3 mul-result returns)

@@ -1,0 +1,25 @@
+-- `blocks::put_in` meets its contract: `put` behind the last entry. Assumes nothing.
+use mathlib.Core.Path.{ap, _∙_}
+use Prim.Native.Nat.{ℕ, _+_}
+use lib.ListN.{set}
+use borrow.Author.Needs.{needs}
+use Rattle.blocks.proofs.put_in.Statement.{statement}
+use Rattle.blocks.proofs.put_in.Tie as tie
+
+wide-requires : tie.Need-wide-requires
+wide-requires c κs = search needs
+
+add-put : tie.Need-add-put
+add-put c = search needs
+
+put-requires : tie.Need-put-requires
+put-requires c κs = search needs
+
+same-length : tie.Need-same-length
+same-length c = search needs
+
+returns : tie.Need-returns
+returns c = (c .before .before .put .ensures) ∙ ap (λ (k : ℕ). set ((c .before .before .before .before .before .before .args .list) .now) ((c .before .before .before .before .before .before .args .from) + k) (c .before .before .before .before .before .before .args .start)) (c .before .before .before .wide .ensures)
+
+pub put-in-spec : {M : Type 1} → statement M
+put-in-spec = tie.close (tie.spec wide-requires add-put put-requires same-length returns)

@@ -1,0 +1,4 @@
+pub mod Blocks
+pub mod Growth
+pub mod Shape
+pub mod Asks

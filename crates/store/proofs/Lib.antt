@@ -1,0 +1,5 @@
+pub mod Steps
+pub mod Items
+pub mod Moves
+pub mod Blocks
+pub mod Changes
