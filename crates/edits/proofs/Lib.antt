@@ -1,0 +1,5 @@
+pub mod AddingWays
+pub mod AddingLengths
+pub mod Written
+pub mod WayUp
+pub mod Removals

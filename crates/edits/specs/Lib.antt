@@ -1,0 +1,3 @@
+pub mod Nodes
+pub mod Adding
+pub mod Removing

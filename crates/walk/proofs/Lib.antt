@@ -1,0 +1,9 @@
+pub mod Whole
+pub mod Within
+pub mod Steps
+pub mod Kept
+pub mod LookupWays
+pub mod Turns
+pub mod Visits
+pub mod Sights
+pub mod Paths
