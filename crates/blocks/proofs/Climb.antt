@@ -64,7 +64,7 @@ module _ (p : Pool) (top lim : ℕ) (l m : List ℕ) (spare : Bool) (k : Like p 
           (λ a b. omega (arith, b, room-zero p top lim 0 s r .0, section-end (spacings top) (p .size) 0 t (omega (arith, n)), start-zero (spacings top) (p .size)))
           ∙ k .others t n)
 
--- a pool and its list after any number of singles, returned one after the other, each allowed; the last: was there one
+-- a pool and its list after any number of singles, returned one after the other, each allowed; the Bool says whether there was one
 pub data Climbed (top lim : ℕ) (l : List ℕ) : Pool → List ℕ → Bool → Type 0 where
   found : {p : Pool} → InShape p top l → Climbed top lim l p l false
   back : {p : Pool} {m : List ℕ} {spare : Bool} → Climbed top lim l p m spare → (s : ℕ) → roomOf p top lim 0 s ≡ 0 → Climbed top lim l (giveOf p top m 0 s .0) (giveOf p top m 0 s .1) true

@@ -1,5 +1,5 @@
 -- The numbers as the code asks for them, on the free list as found. `spare`: a single block has just come back, which that
--- list doesn't show. proofs/Spare.antt shows that these are the numbers of the steps one after the other. Assumes nothing.
+-- list doesn't show. proofs/Spare.antt (inserts) and proofs/Climb.antt (removals) show that these are the numbers of the steps. Assumes nothing.
 use Prim.Native.Nat.{ℕ, zero, suc, _-_}
 use mathlib.Core.Bool.{Bool, false, cond, _&&_}
 use mathlib.Core.List.{List}

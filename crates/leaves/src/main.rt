@@ -4,7 +4,6 @@
 mod answers;
 mod node_answers;
 mod order_answers;
-mod words;
 
 use answers::Answer;
 use libc::STDIN_FILENO;
@@ -41,15 +40,15 @@ fn answer_one(input: &[u8], at: usize, out: &mut [u8], to: usize)
     requires { ⌜ (at + 20 ≤ length (now input)) × (to + 12 ≤ length (now out)) ⌝ }
 {
     let r = answer(
-        words::word_at(input, at),
-        words::word_at(input, at + 4),
-        words::word_at(input, at + 8),
-        words::word_at(input, at + 12),
-        words::word_at(input, at + 16),
+        octets::word_at(input, at),
+        octets::word_at(input, at + 4),
+        octets::word_at(input, at + 8),
+        octets::word_at(input, at + 12),
+        octets::word_at(input, at + 16),
     );
-    words::put_word(out, to, r.kind);
-    words::put_word(out, to + 4, r.x);
-    words::put_word(out, to + 8, r.y);
+    octets::put_word(out, to, r.kind);
+    octets::put_word(out, to + 4, r.x);
+    octets::put_word(out, to + 8, r.y);
 }
 
 // The whole requests of the input, answered from the output's start on: how many.

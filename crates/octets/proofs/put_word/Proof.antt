@@ -1,8 +1,9 @@
 use lib.ListN.{length-set}
 use native.Mathlib.Omega.{arith}
+use Rattle.octets.proofs.Written.{written-four}
 use borrow.Author.Needs.{needs}
-use Rattle.leaves.proofs.words.put_word.Statement.{statement}
-use Rattle.leaves.proofs.words.put_word.Tie as tie
+use Rattle.octets.proofs.put_word.Statement.{statement}
+use Rattle.octets.proofs.put_word.Tie as tie
 
 cast-s : tie.Need-cast-s
 cast-s c = search needs
@@ -41,7 +42,7 @@ same-length : tie.Need-same-length
 same-length c = search needs
 
 returns : tie.Need-returns
-returns c = search needs
+returns c = written-four ((c .args .s) .now) (c .args .at) _ _ _ _
 
 pub put-word-spec : {M : Type 1} → statement M
 put-word-spec =
