@@ -40,13 +40,16 @@ match-zero R P key (At b) m = absurd (set-some 0 b (m .set) refl)
 match-zero R P key Nothing m = refl
 
 module _ (d key len : ℕ) (from : d ≤ len) where
+  -- the longest
   pub longest-zero : longestIn 0 d key len ≡ Nothing
   longest-zero = match-zero (λ l s. l ≤ s) (Held d len) key (longestIn 0 d key len) (longest-is 0 d key len from)
 
+  -- the shortest
   pub shortest-zero : shortestIn 0 d key len ≡ Nothing
   shortest-zero = match-zero (λ l s. s ≤ l) (Held d len) key (shortestIn 0 d key len) (shortest-is 0 d key len from)
 
 module _ (bitmap d key len : ℕ) (stands : d % stride ≡ 0) (from : d ≤ len) where
+  -- a best match is kept
   best-kept : (R : ℕ → ℕ → Type 0) (b : ℕ) → Best R (Held d len) bitmap key b → Kept bitmap d key len b
   best-kept R b t =
       let h = t .held in
@@ -56,6 +59,7 @@ module _ (bitmap d key len : ℕ) (stands : d % stride ≡ 0) (from : d ≤ len)
       in
       record { set = t .set; bit = subst (λ (x : ℕ). x < 31) (sym (t .there)) (data-lt key (t .size)); there = t .there ∙ ap (dataBit key) (sym k); from = omega (arith, k, h .from); upto = omega (arith, k, h .within) }
 
+  -- and so is what a match finds
   match-kept : (R : ℕ → ℕ → Type 0) (b : ℕ) (f : Found) → Matches R (Held d len) bitmap key f → f ≡ At b → Kept bitmap d key len b
   match-kept R b f m e = best-kept R b (rw e at m)
 

@@ -7,3 +7,4 @@ pub mod Turns
 pub mod Visits
 pub mod Sights
 pub mod Paths
+pub mod Examples

@@ -16,6 +16,7 @@ use Rattle.walk.specs.declared.Sight.the-variants.{Missing, Rule}
 use Rattle.walk.specs.declared.lookups.Best.{Best}
 use Rattle.walk.specs.Lookups.{visited, ruleIn, bestSight, better, counted, exactIn}
 
+-- the best rule that is data bit b of the node x
 abbrev bestAs : MultiBitNode → ℕ → ℕ → Best
 bestAs x d b = record { cells = x .«data_idx»; bitmap = x .«data_bitmap»; bit = b; depth = d }
 
@@ -29,12 +30,14 @@ pub better-none : (x : MultiBitNode) (d : ℕ) (f : Found) (s : Sight) → f ≡
 unfolding better
 better-none x d f s e = rw e
 
--- what is told of no rule, and of a rule
+-- what is told of the best
 module _ (best : Best) (n : ℕ) where
+  -- no rule
   pub told-missing : best .bitmap ≡ 0 → Missing n ≡ counted (bestSight best) n
   unfolding counted bestSight
   told-missing e = simp (eq-eqb (best .bitmap) 0 e)
 
+  -- a rule
   pub told-rule : (best .bitmap ≡ 0 → ⊥) → (v : ℕ) → v ≡ levelOf (best .bit) → Rule (best .cells) (best .bitmap) (best .bit) (best .depth + v) n ≡ counted (bestSight best) n
   unfolding counted bestSight lengthAt
   told-rule h v e = rw e (simp (ne-eqb (best .bitmap) 0 h))
@@ -46,15 +49,18 @@ rule-as x d b v n e f = rw (e, f)
 
 -- exact in the node where the path ends: b is the rule's data bit, t says whether it is set
 module _ (x : MultiBitNode) (key len d n : ℕ) (en : n ≡ visited d) where
+  -- the path ends above the rule's node
   pub exact-short : d + stride ≤ len → Missing n ≡ exactIn x key len d
   unfolding exactIn
   exact-short h = rw en (simp (le-ltb len (d + stride) h))
 
   module _ (h : len < d + stride) (b : ℕ) (eb : b ≡ dataBit key len) (t : Bool) (et : t ≡ has (x .«data_bitmap») b) where
+    -- the rule isn't there
     pub exact-missing : t ≡ false → Missing n ≡ exactIn x key len d
     unfolding exactIn
     exact-missing f = rw en (simp (lt-ltb len (d + stride) h, ← eb, ← et, f))
 
+    -- it is
     pub exact-rule : t ≡ true → d % stride ≡ 0 → d ≤ len → Rule (x .«data_idx») (x .«data_bitmap») b len n ≡ exactIn x key len d
     unfolding exactIn
     exact-rule f s k =

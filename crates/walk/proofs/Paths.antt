@@ -68,12 +68,14 @@ module _ (l : List ℕ) (lim key len : ℕ) where
   module _ (k next : ℕ) (p : List ℕ) (n : List MultiBitNode) (w : Path l lim key len k p n) (room : suc k < 7)
       (s : soundOf (getD n k emptyNode) ≡ true) (e : stepOf lim key len (stride * k) (getD n k emptyNode) ≡ Down next) (b : next < lim)
     where
+      -- the lists with the next level
       p₁ : List ℕ
       p₁ = set p (suc k) next
 
       n₁ : List MultiBitNode
       n₁ = set n (suc k) (nodeAt l next)
 
+      -- the new level
       new-place : getD p₁ (suc k) 0 ≡ next
       unfolding p₁
       new-place = let h = w .all-places in getD-set-same p (suc k) next 0 (omega arith)
@@ -82,6 +84,7 @@ module _ (l : List ℕ) (lim key len : ℕ) where
       unfolding n₁
       new-node = let h = w .all-nodes in getD-set-same n (suc k) (nodeAt l next) emptyNode (omega arith)
 
+      -- the levels before it
       old-place : (i : ℕ) → i ≤ k → getD p₁ i 0 ≡ getD p i 0
       unfolding p₁
       old-place i h = getD-set-other p (suc k) i next 0 (λ z. omega arith)
@@ -90,6 +93,7 @@ module _ (l : List ℕ) (lim key len : ℕ) where
       unfolding n₁
       old-node i h = getD-set-other n (suc k) i (nodeAt l next) emptyNode (λ z. omega arith)
 
+      -- the longer path
       longer : Path l lim key len (suc k) p₁ n₁
       unfolding p₁ n₁
       longer =
@@ -140,6 +144,7 @@ module _ (l : List ℕ) (lim key len : ℕ) where
         (p : List ℕ) (n : List MultiBitNode) → Path l lim key len (d / stride) (set p (d / stride) at) (set n (d / stride) (nodeAt l at))
         → trailFrom f l lim key len at d p n .sound ≡ true → Trailed l lim key len (trailFrom f l lim key len at d p n)
 
+    -- a turn
     turn : (f at d : ℕ) → Standing lim len at d → ((next : ℕ) → stepOf lim key len d (nodeAt l at) ≡ Down next → On f next (d + stride)) → On (suc f) at d
     unfolding trailFrom p₁ n₁
     turn f at d w h p n v =

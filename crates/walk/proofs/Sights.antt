@@ -48,18 +48,21 @@ module _ (key len : ℕ) where
 
   -- ---- longest
 
+  -- the better of two sights
   better-seen : (x : MultiBitNode) (d : ℕ) (m : Found) (best : Sight) → soundOf x ≡ true → ((b : ℕ) → m ≡ At b → Kept (x .«data_bitmap») d key len b)
       → Seen key len best → Seen key len (better m x d best)
   unfolding better
   better-seen x d (At b) best s k h = kept-seen x d b 0 s (k b refl) (omega arith)
   better-seen x d Nothing best s k h = h
 
+  -- a sight with its count
   counted-seen : (s : Sight) (n : ℕ) → n ≤ visited len → Seen key len s → Seen key len (counted s n)
   unfolding counted
   counted-seen Unsound n h w = w
   counted-seen (Missing c) n h w = h
   counted-seen (Rule cells bitmap b m c) n h w = record { set = w .set; small = w .small; there = w .there; upto = w .upto; visits = h }
 
+  -- a turn
   longest-step : (s : Bool) (t : Step) (b : Sight) (d : ℕ) (on : ℕ → Sight) → d ≤ len → (s ≡ true → Seen key len b)
       → ((next : ℕ) → s ≡ true → t ≡ Down next → Seen key len (on next)) → Seen key len (cond s (longestStep t b d on) Unsound)
   unfolding longestStep
@@ -69,6 +72,7 @@ module _ (key len : ℕ) where
   longest-step true Broken b d on h w k = tt
 
   module _ (l : List ℕ) (lim : ℕ) where
+    -- from any node
     longest-from : (f at d : ℕ) → Standing lim len at d → len < d + stride * f → (best : Sight) → Seen key len best → Seen key len (longestFrom f l lim key len at d best)
     unfolding longestFrom
     longest-from =
@@ -84,6 +88,7 @@ module _ (key len : ℕ) where
 
   -- ---- shortest
 
+  -- a turn
   shortest-step : (s : Bool) (m : Found) (t : Step) (x : MultiBitNode) (d : ℕ) (on : ℕ → Sight) → d ≤ len
       → ((b : ℕ) → s ≡ true → m ≡ At b → Seen key len (ruleIn x d b (visited d))) → ((next : ℕ) → t ≡ Down next → Seen key len (on next))
       → Seen key len (cond s (shortestStep m t x d on) Unsound)
@@ -95,6 +100,7 @@ module _ (key len : ℕ) where
   shortest-step true Nothing Broken x d on h w k = tt
 
   module _ (l : List ℕ) (lim : ℕ) where
+    -- from any node
     shortest-from : (f at d : ℕ) → Standing lim len at d → len < d + stride * f → Seen key len (shortestFrom f l lim key len at d)
     unfolding shortestFrom
     shortest-from =
@@ -106,6 +112,7 @@ module _ (key len : ℕ) where
 
   -- ---- exact
 
+  -- the end of the path
   exact-end : (x : MultiBitNode) (d : ℕ) → soundOf x ≡ true → d % stride ≡ 0 → d ≤ len → Seen key len (exactIn x key len d)
   unfolding exactIn
   exact-end x d s z h = go (ltb len (d + stride)) refl (has (x .«data_bitmap») (dataBit key len)) refl
@@ -120,6 +127,7 @@ module _ (key len : ℕ) where
           let k : lengthAt d (dataBit key len) ≡ len = ap (λ (y : ℕ). lengthAt y (dataBit key len)) (sym w) ∙ data-length key len in
           record { set = q; small = sound-31 x s; there = ap (dataBit key) (sym k); upto = omega (arith, k); visits = visited-le d len h }
 
+  -- a turn
   exact-step : (s : Bool) (t : Step) (x : MultiBitNode) (d : ℕ) (on : ℕ → Sight) → (s ≡ true → Seen key len (exactIn x key len d))
       → ((next : ℕ) → t ≡ Down next → Seen key len (on next)) → Seen key len (cond s (exactStep t x key len d on) Unsound)
   unfolding exactStep
@@ -129,6 +137,7 @@ module _ (key len : ℕ) where
   exact-step true Broken x d on w k = tt
 
   module _ (l : List ℕ) (lim : ℕ) where
+    -- from any node
     exact-from : (f at d : ℕ) → Standing lim len at d → len < d + stride * f → Seen key len (exactFrom f l lim key len at d)
     unfolding exactFrom
     exact-from =
@@ -139,6 +148,7 @@ module _ (key len : ℕ) where
 
   -- ---- from the root
 
+  -- a mark of 0 is number 5
   root-seen : (lim : ℕ) (s : Sight) → ((lim ≡ 0 → ⊥) → Seen key len s) → Seen key len (cond (ltb 0 lim) s Unsound)
   root-seen lim s h = go (ltb 0 lim) refl
     where
@@ -147,14 +157,17 @@ module _ (key len : ℕ) where
       go false p = tt
 
   module _ (short : len ≤ width) (l : List ℕ) (lim : ℕ) where
+    -- what longest sees
     pub longest-seen : Seen key len (longestSight l lim key len)
     unfolding longestSight
     longest-seen = root-seen lim (longestFrom 7 l lim key len 0 0 (Missing 0)) (λ h. longest-from l lim 7 0 0 (at-root lim len short h) (omega arith) (Missing 0) (omega arith))
 
+    -- what shortest sees
     pub shortest-seen : Seen key len (shortestSight l lim key len)
     unfolding shortestSight
     shortest-seen = root-seen lim (shortestFrom 7 l lim key len 0 0) (λ h. shortest-from l lim 7 0 0 (at-root lim len short h) (omega arith))
 
+    -- what exact sees
     pub exact-seen : Seen key len (exactSight l lim key len)
     unfolding exactSight
     exact-seen = root-seen lim (exactFrom 7 l lim key len 0 0) (λ h. exact-from l lim 7 0 0 (at-root lim len short h) (omega arith))

@@ -63,19 +63,23 @@ module _ (lim key len d : ℕ) (x : MultiBitNode) where
           let k = child-below lim (x .«child_bitmap») (x .«children_idx» .0) (childBit d key) r (child-lt d key) (has-one (x .«child_bitmap») (childBit d key) q) in
           record { deeper = leb-true (d + stride) len p; child = q; within = r; place = g; below = rw g k }
 
-  -- the same from the answers of the tests: b is the child's bit, h says whether it is set, w whether the block is within
+  -- the same from the answers of the tests: b is the child's bit, t says whether it is set, w whether the block is within
   module _ (h : d + stride ≤ len) (b : ℕ) (eb : b ≡ childBit d key) (t : Bool) (et : t ≡ has (x .«child_bitmap») b) where
+    -- no child
     pub next-none : t ≡ false → End ≡ stepOf lim key len d x
     next-none f = sym (step-none h (rw (← eb) (sym et ∙ f)))
 
     module _ (e : t ≡ true) (w : Bool) (ew : w ≡ childrenWithin lim (count (x .«child_bitmap»)) (x .«children_idx» .0)) where
+      -- a block past the mark
       pub next-broken : w ≡ false → Broken ≡ stepOf lim key len d x
       next-broken f = sym (step-broken h (rw (← eb) (sym et ∙ e)) (sym ew ∙ f))
 
       module _ (f : w ≡ true) (s : ℕ) (es : s ≡ setBelow (x .«child_bitmap») b) where
+        -- the child's position is below the mark
         pub next-below : x .«children_idx» .0 + s < lim
         next-below =
             rw (es, eb) (child-below lim (x .«child_bitmap») (x .«children_idx» .0) (childBit d key) (sym ew ∙ f) (child-lt d key) (has-one (x .«child_bitmap») (childBit d key) (rw (← eb) (sym et ∙ e))))
 
+        -- down to it
         pub next-down : Down (x .«children_idx» .0 + s) ≡ stepOf lim key len d x
         next-down = rw (es, eb) (sym (step-down h (rw (← eb) (sym et ∙ e)) (sym ew ∙ f)))

@@ -40,6 +40,7 @@ module _ (l : List ℕ) (lim key len : ℕ) where
 
   -- ---- so more fuel changes nothing
 
+  -- a turn of longest is the same where the turns below are
   longest-same : (s : Bool) (t : Step) (b : Sight) (d : ℕ) (on more : ℕ → Sight) → ((next : ℕ) → t ≡ Down next → on next ≡ more next)
       → cond s (longestStep t b d on) Unsound ≡ cond s (longestStep t b d more) Unsound
   unfolding longestStep
@@ -48,6 +49,7 @@ module _ (l : List ℕ) (lim key len : ℕ) where
   longest-same true Broken b d on more h = refl
   longest-same false t b d on more h = refl
 
+  -- more fuel changes nothing of longest
   pub longest-fuel : (f at d : ℕ) → Standing lim len at d → len < d + stride * f → (best : Sight)
       → longestFrom f l lim key len at d best ≡ longestFrom (suc f) l lim key len at d best
   unfolding longestFrom
@@ -59,6 +61,7 @@ module _ (l : List ℕ) (lim key len : ℕ) where
       longest-same (soundOf x) (stepOf lim key len d x) b d (λ next. longestFrom f l lim key len next (d + stride) b)
       (λ next. longestFrom (suc f) l lim key len next (d + stride) b) (λ next e. h next e b))
 
+  -- a turn of shortest is the same where the turns below are
   shortest-same : (s : Bool) (m : Found) (t : Step) (x : MultiBitNode) (d : ℕ) (on more : ℕ → Sight) → ((next : ℕ) → t ≡ Down next → on next ≡ more next)
       → cond s (shortestStep m t x d on) Unsound ≡ cond s (shortestStep m t x d more) Unsound
   unfolding shortestStep
@@ -68,6 +71,7 @@ module _ (l : List ℕ) (lim key len : ℕ) where
   shortest-same true Nothing Broken x d on more h = refl
   shortest-same false m t x d on more h = refl
 
+  -- more fuel changes nothing of shortest
   pub shortest-fuel : (f at d : ℕ) → Standing lim len at d → len < d + stride * f → shortestFrom f l lim key len at d ≡ shortestFrom (suc f) l lim key len at d
   unfolding shortestFrom
   shortest-fuel =
@@ -77,6 +81,7 @@ module _ (l : List ℕ) (lim key len : ℕ) where
       shortest-same (soundOf x) (shortestIn (x .«data_bitmap») d key len) (stepOf lim key len d x) x d
       (λ next. shortestFrom f l lim key len next (d + stride)) (λ next. shortestFrom (suc f) l lim key len next (d + stride)) h)
 
+  -- a turn of exact is the same where the turns below are
   exact-same : (s : Bool) (t : Step) (x : MultiBitNode) (d : ℕ) (on more : ℕ → Sight) → ((next : ℕ) → t ≡ Down next → on next ≡ more next)
       → cond s (exactStep t x key len d on) Unsound ≡ cond s (exactStep t x key len d more) Unsound
   unfolding exactStep
@@ -85,6 +90,7 @@ module _ (l : List ℕ) (lim key len : ℕ) where
   exact-same true Broken x d on more h = refl
   exact-same false t x d on more h = refl
 
+  -- more fuel changes nothing of exact
   pub exact-fuel : (f at d : ℕ) → Standing lim len at d → len < d + stride * f → exactFrom f l lim key len at d ≡ exactFrom (suc f) l lim key len at d
   unfolding exactFrom
   exact-fuel =
@@ -94,6 +100,7 @@ module _ (l : List ℕ) (lim key len : ℕ) where
       exact-same (soundOf x) (stepOf lim key len d x) x d
       (λ next. exactFrom f l lim key len next (d + stride)) (λ next. exactFrom (suc f) l lim key len next (d + stride)) h)
 
+  -- a turn of the trail is the same where the turns below are
   trail-same : (s : Bool) (t : Step) (d : ℕ) (p : List ℕ) (n : List MultiBitNode) (on more : ℕ → Trail) → ((next : ℕ) → t ≡ Down next → on next ≡ more next)
       → cond s (trailStep t d p n on) (trailAs false d p n) ≡ cond s (trailStep t d p n more) (trailAs false d p n)
   unfolding trailStep
@@ -102,6 +109,7 @@ module _ (l : List ℕ) (lim key len : ℕ) where
   trail-same true Broken d p n on more h = refl
   trail-same false t d p n on more h = refl
 
+  -- more fuel changes nothing of the trail
   pub trail-fuel : (f at d : ℕ) → Standing lim len at d → len < d + stride * f → (p : List ℕ) (n : List MultiBitNode)
       → trailFrom f l lim key len at d p n ≡ trailFrom (suc f) l lim key len at d p n
   unfolding trailFrom

@@ -39,5 +39,6 @@ sound-31 x h =
     go true false e = let z : _≡_ {A = ℕ} 0 1 = cc in absurd (omega arith)
     go false b e = let z : _≡_ {A = ℕ} 0 1 = cc in absurd (omega arith)
 
+-- the same as a bit
 pub sound-bit-31 : (x : MultiBitNode) → soundOf x ≡ true → bitAt (x .«data_bitmap») 31 ≡ 0
 sound-bit-31 x h = bit-high 31 (sound-31 x h)

@@ -1,0 +1,5 @@
+pub mod Tests
+pub mod Ways
+pub mod Ready
+pub mod Starts
+pub mod Numbers
