@@ -69,11 +69,13 @@ fresh-sane n d nodes cells node-free cell-free e =
 -- ---- a lookup
 
 module _ (p q : Pool) (rules nodes cells len : ℕ) where
+  -- its slices pass
   look-shaped : LookupReady p q rules nodes cells len → lookupShaped (p .size) (q .size) nodes cells ≡ true
   look-shaped r =
       slices-in (p .size) (q .size) nodes cells (allowed-in (p .size) (r .some-nodes) (r .most-nodes)) (allowed-in (q .size) (r .some-cells) (r .most-cells))
       (r .node-words) (r .cell-words)
 
+  -- its marks and counts pass
   look-sane : LookupReady p q rules nodes cells len → saneState p q rules ≡ true
   look-sane r = sane-in p q rules (r .sane-nodes) (r .sane-cells) (r .few-rules)
 

@@ -54,6 +54,7 @@ pub record Slices (n d nodes cells : ℕ) : Type 0 where
   pub node-words : nodes ≡ n * nodeWords
   pub cell-words : cells ≡ d * cellWords
 
+-- and that they do
 pub slices : (n d nodes cells : ℕ) → lookupShaped n d nodes cells ≡ true → Slices n d nodes cells
 unfolding lookupShaped
 slices n d nodes cells e =
@@ -63,6 +64,7 @@ slices n d nodes cells e =
     record { node-size = c .0; cell-size = c .1; node-words = eqb-true _ _ (b .1); cell-words = eqb-true _ _ (a .1) }
 
 module _ (p q : Pool) (rules nodes cells len : ℕ) where
+  -- the three tests say what a lookup relies on
   ready : lookupShaped (p .size) (q .size) nodes cells ≡ true → leb len width ≡ true → saneState p q rules ≡ true → LookupReady p q rules nodes cells len
   unfolding saneState
   ready e f g =

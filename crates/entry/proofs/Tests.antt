@@ -18,13 +18,15 @@ second-fails a b c e f = simp (e, f)
 pub third-decides : (a b c : Bool) → a ≡ true → b ≡ true → c ≡ a && b && c
 third-decides a b c e f = simp (e, f)
 
--- two tests that both hold, or of which one fails
+-- two tests that both hold
 pub both-hold : (a b : Bool) → a ≡ true → b ≡ true → a && b ≡ true
 both-hold a b e f = simp (e, f)
 
+-- of which the first fails
 pub left-fails : (a b : Bool) → a ≡ false → a && b ≡ false
 left-fails a b e = simp e
 
+-- of which the second fails
 pub right-fails : (a b : Bool) → a ≡ true → b ≡ false → a && b ≡ false
 right-fails a b e f = simp (e, f)
 

@@ -96,24 +96,28 @@ module _ (p q : Pool) (rules : ℕ) where
   unfolding saneState
   rules-decide e f = third-decides (saneOf p childTop) (saneOf q dataTop) (leb rules (q .size)) e f
 
--- ---- the number
+-- ---- the number of a lookup, and of an edit
 
 module _ (p q : Pool) (rules nodes cells len : ℕ) where
   abbrev look : Bool
   look = lookupShaped (p .size) (q .size) nodes cells
 
+  -- wrong slices or sizes
   pub lookup-3 : look ≡ false → 3 ≡ lookupFirst p q rules nodes cells len
   unfolding lookupFirst
   lookup-3 e = gives-3 look (leb len width) (saneState p q rules) e
 
+  -- else a length above 32
   pub lookup-1 : look ≡ true → width < len → 1 ≡ lookupFirst p q rules nodes cells len
   unfolding lookupFirst
   lookup-1 e h = gives-1 look (leb len width) (saneState p q rules) e (lt-leb len width h)
 
+  -- else a mark or a count that is too high
   pub lookup-5 : look ≡ true → len ≤ width → saneState p q rules ≡ false → 5 ≡ lookupFirst p q rules nodes cells len
   unfolding lookupFirst
   lookup-5 e h f = gives-5 look (leb len width) (saneState p q rules) e (le-leb len width h) f
 
+  -- else nothing
   pub lookup-0 : look ≡ true → len ≤ width → saneState p q rules ≡ true → 0 ≡ lookupFirst p q rules nodes cells len
   unfolding lookupFirst
   lookup-0 e h f = gives-0 look (leb len width) (saneState p q rules) e (le-leb len width h) f
@@ -122,18 +126,22 @@ module _ (p q : Pool) (rules nodes cells node-free cell-free key len : ℕ) wher
   abbrev edit : Bool
   edit = editShaped (p .size) (q .size) nodes cells node-free cell-free
 
+  -- wrong slices or sizes
   pub edit-3 : edit ≡ false → 3 ≡ editFirst p q rules nodes cells node-free cell-free key len
   unfolding editFirst
   edit-3 e = gives-3 edit (leb len width) (saneState p q rules) e
 
+  -- else a length above 32
   pub edit-1 : edit ≡ true → width < len → 1 ≡ editFirst p q rules nodes cells node-free cell-free key len
   unfolding editFirst
   edit-1 e h = gives-1 edit (leb len width) (saneState p q rules) e (lt-leb len width h)
 
+  -- else a mark or a count that is too high
   pub edit-5 : edit ≡ true → len ≤ width → saneState p q rules ≡ false → 5 ≡ editFirst p q rules nodes cells node-free cell-free key len
   unfolding editFirst
   edit-5 e h f = gives-5 edit (leb len width) (saneState p q rules) e (le-leb len width h) f
 
+  -- else nothing
   pub edit-0 : edit ≡ true → len ≤ width → saneState p q rules ≡ true → 0 ≡ editFirst p q rules nodes cells node-free cell-free key len
   unfolding editFirst
   edit-0 e h f = gives-0 edit (leb len width) (saneState p q rules) e (le-leb len width h) f
