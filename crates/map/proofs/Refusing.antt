@@ -2,7 +2,7 @@
 use mathlib.Core.Path.{_≡_, refl, sym, ap, _∙_, subst}
 use mathlib.Core.Bool.{Bool, true, false, cond}
 use mathlib.Core.List.{List}
-use mathlib.Core.Logic.{_⊎_, inl, inr}
+use mathlib.Core.Logic.{inl, inr}
 use Prim.Native.Nat.{ℕ, zero, suc, _+_, _≤_}
 use native.Mathlib.Decide.{ℕ-discrete}
 use native.Mathlib.Omega.{arith}
@@ -72,16 +72,18 @@ uncounted Broken h k = refl
 -- ---- a lookup
 
 -- a lookup gives 0, 1, 2, 3 or 5, and counts at most seven nodes
-pub record Told (v : Values) : Type 0 where
+pub record LookupValues (v : Values) : Type 0 where
   pub low : v .number ≤ 5
   pub roomy : v .number ≡ 4 → ⊥
   pub seven : v .nodes ≤ 7
 
-found-told : (t : Bool) (k m v n : ℕ) → n ≤ 7 → Told (valuesOf (cond t (Found k m v n) Broken))
+-- a rule that was seen, in a block below the mark or not
+found-told : (t : Bool) (k m v n : ℕ) → n ≤ 7 → LookupValues (valuesOf (cond t (Found k m v n) Broken))
 found-told true k m v n h = record { low = omega arith; roomy = λ z. omega arith; seven = h }
 found-told false k m v n h = record { low = omega arith; roomy = λ z. omega arith; seven = omega arith }
 
-answer-told : (s : Sight) (cells : List ℕ) (lim key len : ℕ) → len ≤ width → Seen key len s → Told (valuesOf (answerOf s cells lim key))
+-- the answer of a sight
+answer-told : (s : Sight) (cells : List ℕ) (lim key len : ℕ) → len ≤ width → Seen key len s → LookupValues (valuesOf (answerOf s cells lim key))
 unfolding answerOf
 answer-told Unsound cells lim key len h w = record { low = omega arith; roomy = λ z. omega arith; seven = omega arith }
 answer-told (Missing n) cells lim key len h w =
@@ -99,7 +101,8 @@ first-told n h (inr (inl e)) = refusal-values n (omega arith) (omega arith)
 first-told n h (inr (inr (inl e))) = refusal-values n (omega arith) (omega arith)
 first-told n h (inr (inr (inr e))) = refusal-values n (omega arith) (omega arith)
 
-refused-told : (n : ℕ) → (n ≡ 0 → ⊥) → OneOf n → Told (values n 0 0 0 0)
+-- and they keep to a lookup's
+refused-told : (n : ℕ) → (n ≡ 0 → ⊥) → OneOf n → LookupValues (values n 0 0 0 0)
 refused-told n h (inl e) = absurd (h e)
 refused-told n h (inr (inl e)) = record { low = omega arith; roomy = λ z. omega arith; seven = omega arith }
 refused-told n h (inr (inr (inl e))) = record { low = omega arith; roomy = λ z. omega arith; seven = omega arith }
@@ -110,22 +113,25 @@ module _ (s : State) (nodes cells : List ℕ) (key len : ℕ) where
   abbrev pub firstNumber : ℕ
   firstNumber = lookupFirst (s .nodes) (s .cells) (s .rules) (length nodes) (length cells) len
 
+  -- one of four
   one-of : OneOf firstNumber
   one-of = lookup-numbers (s .nodes) (s .cells) (s .rules) (length nodes) (length cells) len
 
+  -- where they refuse, zeros come with it
   first-zeros : (sight : Sight) → (firstNumber ≡ 0 → ⊥) → valuesOf (lookupOf s nodes cells key len sight) ≡ values firstNumber 0 0 0 0
   first-zeros sight h =
       ap valuesOf (sym (lookup-refused s nodes cells key len firstNumber refl sight h (refusal firstNumber) refl)) ∙ first-told firstNumber h one-of
 
-  look-told : (sight : Sight) → (len ≤ width → Seen key len sight) → Told (valuesOf (lookupOf s nodes cells key len sight))
+  -- a lookup refused, or answered
+  look-told : (sight : Sight) → (len ≤ width → Seen key len sight) → LookupValues (valuesOf (lookupOf s nodes cells key len sight))
   look-told sight w = go (ℕ-discrete firstNumber 0)
     where
-      go : Dec (firstNumber ≡ 0) → Told (valuesOf (lookupOf s nodes cells key len sight))
+      go : Dec (firstNumber ≡ 0) → LookupValues (valuesOf (lookupOf s nodes cells key len sight))
       go (yes z) =
           let k = lookup-walks s nodes cells key len firstNumber refl z .short in
-          subst (λ (x : Answer). Told (valuesOf x)) (lookup-tells s nodes cells key len firstNumber refl z sight sight refl (answerOf sight cells (s .cells .mark) key) refl)
+          subst (λ (x : Answer). LookupValues (valuesOf x)) (lookup-tells s nodes cells key len firstNumber refl z sight sight refl (answerOf sight cells (s .cells .mark) key) refl)
           (answer-told sight cells (s .cells .mark) key len k (w k))
-      go (no z) = subst (λ (v : Values). Told v) (sym (first-zeros sight z)) (refused-told firstNumber z one-of)
+      go (no z) = subst (λ (v : Values). LookupValues v) (sym (first-zeros sight z)) (refused-told firstNumber z one-of)
 
   -- refused by its first tests: their number, and zeros
   pub exact-zeros : (firstNumber ≡ 0 → ⊥) → valuesOf (exactOf s nodes cells key len) ≡ values firstNumber 0 0 0 0
@@ -141,15 +147,15 @@ module _ (s : State) (nodes cells : List ℕ) (key len : ℕ) where
   shortest-zeros h = first-zeros (shortestSight nodes (s .nodes .mark) key len) h
 
   -- on any memory
-  pub exact-told : Told (valuesOf (exactOf s nodes cells key len))
+  pub exact-told : LookupValues (valuesOf (exactOf s nodes cells key len))
   unfolding exactOf
   exact-told = look-told (exactSight nodes (s .nodes .mark) key len) (λ h. exact-seen key len h nodes (s .nodes .mark))
 
-  pub longest-told : Told (valuesOf (longestOf s nodes cells key len))
+  pub longest-told : LookupValues (valuesOf (longestOf s nodes cells key len))
   unfolding longestOf
   longest-told = look-told (longestSight nodes (s .nodes .mark) key len) (λ h. longest-seen key len h nodes (s .nodes .mark))
 
-  pub shortest-told : Told (valuesOf (shortestOf s nodes cells key len))
+  pub shortest-told : LookupValues (valuesOf (shortestOf s nodes cells key len))
   unfolding shortestOf
   shortest-told = look-told (shortestSight nodes (s .nodes .mark) key len) (λ h. shortest-seen key len h nodes (s .nodes .mark))
 

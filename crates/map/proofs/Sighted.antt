@@ -1,5 +1,5 @@
 -- From a sight to an answer: the ways through it, and why the rule's cell may be read. Assumes nothing.
-use mathlib.Core.Path.{_≡_, sym, ap, _∙_, subst}
+use mathlib.Core.Path.{_≡_, sym, _∙_, subst}
 use mathlib.Core.Bool.{Bool, true, false}
 use mathlib.Core.List.{List}
 use Prim.Native.Nat.{ℕ, _+_, _≤_, _<_}
@@ -10,14 +10,12 @@ use Rattle.bits.specs.Bits.{bitAt, count, setBelow}
 use Rattle.bits.proofs.BitByBit.{bit-above}
 use Rattle.prefix.specs.Prefix.{width, masked}
 use Rattle.tiers.specs.declared.CellAt.{CellAt}
-use Rattle.places.specs.Places.{dataBit}
 use Rattle.places.proofs.Prefixes.{data-lt}
 use Rattle.store.specs.declared.Cell.{Cell}
 use Rattle.store.specs.Words.{cellAt}
 use Rattle.walk.specs.declared.Sight.{Sight}
 use Rattle.walk.specs.declared.Sight.the-variants.{Unsound, Missing, Rule}
 use Rattle.walk.specs.Steps.{dataWithin}
-use Rattle.walk.specs.Lookups.{visited}
 use Rattle.walk.proofs.Within.{cell-below}
 use Rattle.walk.proofs.Visits.{visited-le}
 use Rattle.walk.proofs.Sights.{Told, Seen}
@@ -35,31 +33,33 @@ seen-whole key len h (Rule cells bitmap b m n) w =
     record { set = w .set; small = w .small; there = w .there; upto = omega arith; visits = omega arith }
 
 module _ (s : Sight) (cells : List ℕ) (lim key : ℕ) where
-  -- ---- ways
-
+  -- number 5 on the walk
   pub answer-unsound : s ≡ Unsound → Broken ≡ answerOf s cells lim key
   unfolding answerOf
   answer-unsound e = rw e
 
+  -- no rule, with its count
   pub answer-missing : (n : ℕ) → s ≡ Missing n → Absent n ≡ answerOf s cells lim key
   unfolding answerOf
   answer-missing n e = rw e
 
   module _ (at : CellAt) (bitmap b len n : ℕ) (e : s ≡ Rule at bitmap b len n) (w : Bool) (ew : w ≡ dataWithin lim (count bitmap) (at .0)) where
+    -- the rule's block isn't wholly below the mark
     pub answer-broken : w ≡ false → Broken ≡ answerOf s cells lim key
     unfolding answerOf
     answer-broken f = rw e (simp (← ew, f))
 
+    -- it is: key and value worked out in steps
     pub answer-found : w ≡ true → (k : ℕ) → k ≡ masked key len → (i : ℕ) → i ≡ at .0 + setBelow bitmap b → (c : Cell) → c ≡ cellAt cells i
         → Found k len (c .value) n ≡ answerOf s cells lim key
     unfolding answerOf
     answer-found f k ek i ei c ec = rw (e, ek, ec, ei) (simp (← ew, f))
 
-    -- ---- what the rule's numbers stay within
-
+    -- what the walk says of the rule
     pub rule-told : Seen key width s → Told key width bitmap b len n
     rule-told h = rw e at h
 
+    -- its data bit is one that a node has
     pub rule-bit : Seen key width s → b < 31
     rule-bit h = subst (λ (x : ℕ). x < 31) (sym (rule-told h .there)) (data-lt key len)
 

@@ -36,10 +36,17 @@ same-length-4 c = search needs
 
 returns : tie.Need-returns
 returns c =
-    let a = (c .before .before .before .before .before .before .before .before .before .before .before .before .before .before .before .before .before .before .before .before .before .before .before .args) in
-    let t = (c .before .before .before .before .before .before .before .before .before .before .before .before .before .before .before .before .before .before .edit-shaped) in
-    fresh-started (a .nodes .now) (a .cells .now) (a .node-free .now) (a .cell-free .now) (a .n) (a .d) (t .result) (t .ensures) (c .new-state .result) (c .before .before .before .before .before .before .before .before .before .before .before .before .before .before .before .before .before .if1 .taken) (c .new-state .ensures)
-    (c .before .before .before .before .before .before .before .before .before .before .before .before .before .before .before .clear-nodes .last .0) (c .before .before .before .before .before .before .before .before .before .before .before .clear-words .last .0) (c .before .before .before .before .before .before .before .clear-words2 .last .0) (c .before .before .before .clear-words3 .last .0) (c .before .before .before .before .before .before .before .before .before .before .before .before .before .before .before .clear-nodes .ensures) (c .before .before .before .before .before .before .before .before .before .before .before .clear-words .ensures) (c .before .before .before .before .before .before .before .clear-words2 .ensures) (c .before .before .before .clear-words3 .ensures)
+    let clear-3 = c .before .before .before in
+    let clear-2 = clear-3 .before .before .before .before in
+    let clear-1 = clear-2 .before .before .before .before in
+    let clear-0 = clear-1 .before .before .before .before in
+    let start = clear-0 .before .before in
+    let a = start .before .before .before .before .before .before .args in
+    let t = start .before .edit-shaped in
+    fresh-started (a .nodes .now) (a .cells .now) (a .node-free .now) (a .cell-free .now) (a .n) (a .d) (t .result) (t .ensures) (c .new-state .result)
+    (start .if1 .taken) (c .new-state .ensures) (clear-0 .clear-nodes .last .0) (clear-1 .clear-words .last .0) (clear-2 .clear-words2 .last .0)
+    (clear-3 .clear-words3 .last .0) (clear-0 .clear-nodes .ensures) (clear-1 .clear-words .ensures) (clear-2 .clear-words2 .ensures)
+    (clear-3 .clear-words3 .ensures)
 
 new-state-requires-2 : tie.Need-new-state-requires-2
 new-state-requires-2 c κs = search needs

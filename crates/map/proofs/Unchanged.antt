@@ -1,5 +1,5 @@
--- Laws of insert: one outcome, and a refusal leaves everything as it was. Assumes nothing.
-use mathlib.Core.Path.{_≡_, refl, sym, _∙_}
+-- A refused edit changes no state and no lent memory. Assumes nothing.
+use mathlib.Core.Path.{_≡_, refl}
 use mathlib.Core.Bool.{Bool, true, false, cond}
 use Prim.Native.Nat.{ℕ, _+_, _-_, _/_}
 use lib.Dec.{leb, eqb}
@@ -13,13 +13,16 @@ use Rattle.node.specs.Nodes.{emptyNode}
 use Rattle.blocks.specs.Growth.{growAskOf, chainAskOf}
 use Rattle.store.specs.declared.Cell.{Cell}
 use Rattle.walk.specs.Steps.{dataWithin}
+use Rattle.walk.specs.declared.Trail.{Trail}
 use Rattle.walk.specs.Trails.{trailOf}
 use Rattle.entry.specs.First.{editFirst}
+use Rattle.edits.specs.Removing.{dropAskOf, lastRule, pruneAskOf}
 use Rattle.map.specs.declared.State.{State}
 use Rattle.map.specs.declared.Edited.{Edited}
 use Rattle.map.specs.Answers.{valuesOf}
 use Rattle.map.specs.Memory.{Memory, refuse}
 use Rattle.map.specs.Inserts.{replaceOf, hereOf, belowOf, arrivedOf, insertOf}
+use Rattle.map.specs.Removals.{takenOf, removeOf}
 
 -- the number of an edit's answer
 abbrev numberOf : Edited × Memory → ℕ
@@ -29,10 +32,6 @@ numberOf r = valuesOf (r .0 .answer) .number
 pub record Unchanged (s : State) (m : Memory) (r : Edited × Memory) : Type 0 where
   pub state : (numberOf r ≡ 0 → ⊥) → (numberOf r ≡ 8 → ⊥) → r .0 .state ≡ s
   pub memory : (numberOf r ≡ 0 → ⊥) → (numberOf r ≡ 8 → ⊥) → r .1 ≡ m
-
--- any two outcomes of an insert are equal
-pub insert-once : (s : State) (m : Memory) (key len : ℕ) (v : Cell) (r q : Edited × Memory) → r ≡ insertOf s m key len v → q ≡ insertOf s m key len v → r ≡ q
-insert-once s m key len v r q a b = a ∙ sym b
 
 module _ (s : State) (m : Memory) where
   either : (b : Bool) (x y : Edited × Memory) → Unchanged s m x → Unchanged s m y → Unchanged s m (cond b x y)
@@ -83,3 +82,24 @@ module _ (s : State) (m : Memory) where
       either (eqb n 0) _ _
       (either (t .sound) _ _ (arrived-unchanged (masked key len) len v (getD (t .places) i 0) (t .depth) (getD (t .nodes) i emptyNode)) (refused 5))
       (refused n)
+
+  taken-unchanged : (key len : ℕ) (t : Trail) (i : ℕ) (x : MultiBitNode) → Unchanged s m (takenOf s m key len t i x)
+  unfolding takenOf
+  taken-unchanged key len t i x =
+      let a = dropAskOf (s .cells) (m .cell-free) x in
+      let u = pruneAskOf i (s .nodes) (s .nodes .mark) (m .node-free) (t .nodes) (lastRule x) in
+      either (eqb (s .rules) 0) _ _ (refused 5) (either (eqb a 0) _ _ (either (eqb u 0) _ _ (done _ refl) (refused u)) (refused a))
+
+  -- a refused removal changes no state and no lent memory
+  pub remove-unchanged : (key len : ℕ) → Unchanged s m (removeOf s m key len)
+  unfolding removeOf
+  remove-unchanged key len =
+      let n = editFirst (s .nodes) (s .cells) (s .rules) (length (m .nodes)) (length (m .cells)) (length (m .node-free)) (length (m .cell-free)) key len in
+      let k = masked key len in
+      let t = trailOf (m .nodes) (s .nodes .mark) k len in
+      let i = t .depth / stride in
+      let x = getD (t .nodes) i emptyNode in
+      either (eqb n 0) _ _
+      (either (t .sound) _ _
+      (either (leb (t .depth + stride) len) _ _ (refused 2)
+      (either (has (x .«data_bitmap») (dataBit k len)) _ _ (taken-unchanged k len t i x) (refused 2))) (refused 5)) (refused n)
