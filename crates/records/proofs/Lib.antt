@@ -1,0 +1,4 @@
+pub mod Replies
+pub mod Good
+pub mod Calls
+pub mod Playing
