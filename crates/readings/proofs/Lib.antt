@@ -1,1 +1,2 @@
+pub mod SmallWays
 pub mod Starred

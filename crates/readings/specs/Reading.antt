@@ -1,4 +1,4 @@
--- What each input of the list gives, by the leaves' own definitions. Assumes nothing.
+-- What each input of the list gives, by the leaves' and the map's own definitions. Assumes nothing.
 use mathlib.Core.Bool.{_&&_, cond}
 use Prim.Native.Nat.{ℕ, _%_}
 use lib.Dec.{leb, ltb, eqb}
@@ -9,9 +9,10 @@ use Rattle.places.specs.Places.{dataBit, childBit}
 use Rattle.patterns.specs.Patterns.{isAncestor, isChildBelow}
 use Rattle.node.specs.Masks.{dataLpm}
 use Rattle.readings.specs.declared.Input.{Input}
-use Rattle.readings.specs.declared.Input.the-variants.{DataBit, LpmMask, ChildBit, LpmEntry, ChildCoverEntry, DataTier, ChildTier}
+use Rattle.readings.specs.declared.Input.the-variants.{DataBit, LpmMask, ChildBit, LpmEntry, ChildCoverEntry, DataTier, ChildTier, Longest}
 use Rattle.readings.specs.declared.Reading.{Reading}
 use Rattle.readings.specs.declared.Reading.the-variants.{Number, Outside}
+use Rattle.readings.specs.Small.{lent, longestAfter, saidOf}
 
 unfoldable pub readingOf : Input → Reading
 readingOf (DataBit key len) = cond (leb len width) (Number (dataBit key len)) Outside
@@ -22,3 +23,4 @@ readingOf (LpmEntry level place) = cond (ltb level 5) (cond (ltb place 16) (Numb
 readingOf (ChildCoverEntry level place) = cond (ltb level 5) (cond (ltb place 16) (Number (word 32 (isChildBelow level place))) Outside) Outside
 readingOf (DataTier count) = Number (tierOf dataSpacings count)
 readingOf (ChildTier count) = Number (tierOf childSpacings count)
+readingOf (Longest rules key len) = cond (leb rules 2) (saidOf (longestAfter lent rules key len)) Outside

@@ -2,9 +2,9 @@
 use mathlib.Core.Path.{_≡_}
 use mathlib.Core.List.{List, [], _∷_}
 use Rattle.readings.specs.declared.Input.{Input}
-use Rattle.readings.specs.declared.Input.the-variants.{DataBit, LpmMask, ChildBit, LpmEntry, ChildCoverEntry, DataTier, ChildTier}
+use Rattle.readings.specs.declared.Input.the-variants.{DataBit, LpmMask, ChildBit, LpmEntry, ChildCoverEntry, DataTier, ChildTier, Longest}
 use Rattle.readings.specs.declared.Reading.{Reading}
-use Rattle.readings.specs.declared.Reading.the-variants.{Number}
+use Rattle.readings.specs.declared.Reading.the-variants.{Number, Said}
 use Rattle.readings.specs.Reading.{readingOf}
 
 pub record Row : Type 0 where
@@ -28,6 +28,11 @@ starred =
     ∷ row (ChildTier 25) (Number 6)
     ∷ row (DataTier 2) (Number 1)
     ∷ row (ChildTier 2) (Number 1)
+    ∷ row (Longest 1 0x0a00_0100 26) (Said 2 0 6 0 0)
+    ∷ row (Longest 1 0x0a00_0100 27) (Said 0 27 6 0x0a00_0100 7)
+    ∷ row (Longest 2 0x0a00_0113 32) (Said 0 32 7 0x0a00_0113 9)
+    ∷ row (Longest 2 0x0a00_0112 32) (Said 0 27 7 0x0a00_0100 7)
+    ∷ row (Longest 0 0x0a00_0113 32) (Said 2 0 1 0 0)
     ∷ []
 
 -- each row's input gives its result

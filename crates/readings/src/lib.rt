@@ -1,5 +1,7 @@
 // The readings of document 01 that are marked as the small proved set: one list of inputs and results.
 // The list stands in specs/Starred.antt; the one statement that proves it in proofs/Starred.antt.
+mod small;
+
 use tiers::ChildPool;
 use tiers::DataPool;
 ghost use mathlib.Core.Path.{_≡_};
@@ -14,11 +16,19 @@ pub enum Input {
     ChildCoverEntry { level: usize, place: usize },
     DataTier { count: u32 },
     ChildTier { count: u32 },
+    Longest { rules: u32, key: u32, len: u32 },
 }
 
-// What it gives: a number, or nothing where the input is outside the function's.
+// What it gives: a number, what the map says, or nothing where the input is outside the function's.
 pub enum Reading {
     Number(usize),
+    Said {
+        number: u32,
+        len: u32,
+        nodes: u32,
+        key: u32,
+        value: u32,
+    },
     Outside,
 }
 
@@ -91,5 +101,6 @@ pub fn read(input: Input) -> Reading
         Input::ChildCoverEntry { level, place } => child_cover_entry(level, place),
         Input::DataTier { count } => Reading::Number(DataPool::tier(count)),
         Input::ChildTier { count } => Reading::Number(ChildPool::tier(count)),
+        Input::Longest { rules, key, len } => small::longest(rules, key, len),
     }
 }

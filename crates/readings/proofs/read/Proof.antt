@@ -47,6 +47,12 @@ enum-known-input-7 c = search needs
 tier-requires-2 : tie.Need-tier-requires-2
 tier-requires-2 c κs = search needs
 
+enum-known-input-8 : tie.Need-enum-known-input-8
+enum-known-input-8 c = search needs
+
+longest-requires : tie.Need-longest-requires
+longest-requires c κs = search needs
+
 returns : tie.Need-returns
 returns c = c .data-bit .ensures ∙ ap readingOf (sym (c .before .before .input .given .1))
 
@@ -70,6 +76,9 @@ returns-7 : tie.Need-returns-7
 unfolding readingOf
 returns-7 c = ap Number (c .tier2 .ensures) ∙ ap readingOf (sym (c .before .before .input7 .given .1))
 
+returns-8 : tie.Need-returns-8
+returns-8 c = c .longest .ensures ∙ ap readingOf (sym (c .before .before .input8 .given .1))
+
 pub read-spec : {M : Type 1} → statement M
 read-spec =
     tie.close
@@ -88,10 +97,13 @@ read-spec =
     tier-requires
     enum-known-input-7
     tier-requires-2
+    enum-known-input-8
+    longest-requires
     returns
     returns-2
     returns-3
     returns-4
     returns-5
     returns-6
-    returns-7)
+    returns-7
+    returns-8)
