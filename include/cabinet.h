@@ -1,9 +1,9 @@
 /* The prefix map for C: six calls over memory that the caller lends.
  *
- * Link target/staticlib/libcabinet.a, which `rt staticlib cabinet` proves and builds for x86-64. Each call's contract below is
- * proved of the Rattle function (crates/cabinet) for every key, length, state and content of the slices. What C itself has to
- * see to is only what a Rust slice sees to: each pointer leads to as many words as the length beside it says, no two of the
- * four areas overlap, and nobody else touches them during the call. A pointer is never null, not even with length 0.
+ * Link target/staticlib/libcabinet.a, which `rt staticlib cabinet` proves and builds for x86-64. Each function is proved to
+ * hand on exactly what the map (crates/map) answers, for every key, length, state and content of the slices; docs/PROMISES.md
+ * says what is proved of the map. What C has to see to is what a Rust slice sees to: each pointer leads to as many words as the
+ * length beside it says and is not null, no two of the four areas overlap, and nobody else touches them during the call.
  */
 #ifndef CABINET_H
 #define CABINET_H
@@ -21,7 +21,7 @@ extern "C" {
 #define CABINET_NOTHING 2u     /* nothing covers the query, or the rule is not stored */
 #define CABINET_WRONG_SLICE 3u /* a slice is not exactly as long as it must be, or a pool's size is outside 1 to CABINET_POOL_MAX */
 #define CABINET_NO_ROOM 4u     /* a pool cannot supply a block that the edit needs */
-#define CABINET_BROKEN 5u      /* broken memory; from a fresh start on it never occurs */
+#define CABINET_BROKEN 5u      /* broken memory: the lent words or the state are not what the calls left */
 #define CABINET_REPLACED 8u    /* the prefix was stored: its value is replaced */
 
 /* The limits, and the words of one node. */
