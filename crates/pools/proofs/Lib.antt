@@ -1,0 +1,11 @@
+pub mod Items
+pub mod Entries
+pub mod Rows
+pub mod Accounts
+pub mod Numbers
+pub mod Colours
+pub mod Moving
+pub mod Gains
+pub mod Growth
+pub mod Losses
+pub mod Shrinkage

@@ -1,7 +1,7 @@
 -- Items of owners, known by numbers: item x is the owner x / 32's, at place x % 32. K says which items there are. Assumes nothing.
 -- A notion of the proofs: no promise cites it.
 use mathlib.Core.Bool.{Bool, cond}
-use Prim.Native.Nat.{ℕ, zero, suc, _+_, _*_, _/_, _%_}
+use Prim.Native.Nat.{ℕ, _+_, _*_, _/_, _%_}
 use lib.Dec.{eqb}
 use Rattle.bits.specs.Bits.{one}
 use Rattle.rules.specs.Sums.{sum}
