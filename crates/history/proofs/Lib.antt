@@ -1,0 +1,15 @@
+pub mod Masked
+pub mod Booked
+pub mod Starting
+pub mod Settling
+pub mod TooLong
+pub mod Lookups
+pub mod Keeping
+pub mod Inserts
+pub mod Making
+pub mod Removals
+pub mod Removing
+pub mod Lifting
+pub mod Always
+pub mod Numbers
+pub mod Reached
