@@ -2,22 +2,41 @@
 
 use crate::rules::{node_depth, Prefix, Rules};
 
+/// How many sizes of blocks a pool has.
+pub const TIERS: usize = 7;
+
+/// One of the two pools.
+#[derive(Clone, Copy, Debug, PartialEq, Eq)]
+pub enum Kind {
+    Nodes,
+    Cells,
+}
+
+/// A block that an edit needs and that its pool can't supply.
+#[derive(Clone, Copy, Debug, PartialEq, Eq)]
+pub struct Shortage {
+    pub pool: Kind,
+    pub tier: usize,
+}
+
 /// One pool's account.
 #[derive(Clone, Debug, PartialEq, Eq)]
 pub struct Pool {
-    spacings: [usize; 7],
+    kind: Kind,
+    spacings: [usize; TIERS],
     size: usize,
     pub mark: usize,
-    pub free: [usize; 7],
+    pub free: [usize; TIERS],
 }
 
 impl Pool {
-    fn new(last_spacing: usize, size: usize, mark: usize) -> Pool {
+    fn new(kind: Kind, last_spacing: usize, size: usize, mark: usize) -> Pool {
         Pool {
+            kind,
             spacings: [1, 2, 4, 8, 16, 24, last_spacing],
             size,
             mark,
-            free: [0; 7],
+            free: [0; TIERS],
         }
     }
 
@@ -35,8 +54,13 @@ impl Pool {
         }
     }
 
-    fn end_holds(&self, cells: usize) -> bool {
-        self.mark + cells <= self.size
+    /// Whether the unused end holds so many; if not, a block of this tier is what is lacking.
+    fn end_holds(&self, cells: usize, tier: usize) -> Result<(), Shortage> {
+        if self.mark + cells <= self.size {
+            return Ok(());
+        }
+        let pool = self.kind;
+        Err(Shortage { pool, tier })
     }
 
     fn take(&mut self, tier: usize) {
@@ -54,7 +78,7 @@ impl Pool {
             .filter(|count| *count > 0)
             .map(|count| self.spacings[self.tier(count)])
             .sum();
-        let free: usize = (0..7)
+        let free: usize = (0..TIERS)
             .map(|tier| self.free[tier] * self.spacings[tier])
             .sum();
         fixed + used + free + (self.size - self.mark) == self.size
@@ -70,13 +94,13 @@ pub struct Ledger {
 impl Ledger {
     pub fn new(nodes: usize, cells: usize) -> Ledger {
         Ledger {
-            nodes: Pool::new(32, nodes, 1),
-            cells: Pool::new(31, cells, 0),
+            nodes: Pool::new(Kind::Nodes, 32, nodes, 1),
+            cells: Pool::new(Kind::Cells, 31, cells, 0),
         }
     }
 
-    /// Books the insert of a prefix that isn't stored; false where there is no room.
-    pub fn insert(&mut self, rules: &Rules, (key, length): Prefix) -> bool {
+    /// Books the insert of a prefix that isn't stored, where there is room.
+    pub fn insert(&mut self, rules: &Rules, (key, length): Prefix) -> Result<(), Shortage> {
         let depth = node_depth(length);
         let missing = (0..=depth)
             .step_by(5)
@@ -85,9 +109,8 @@ impl Ledger {
         let lowest = depth - 5 * missing as u8;
         let children = rules.child_count(key, lowest);
         let data = rules.data_count(key, depth);
-        if !self.node_room(missing, children) || !self.data_room(data) {
-            return false;
-        }
+        self.node_room(missing, children)?;
+        self.data_room(data)?;
         self.add_nodes(missing, children);
         let old = self.cells.tier(data);
         let new = self.cells.tier(data + 1);
@@ -97,33 +120,35 @@ impl Ledger {
             self.cells.take(new);
             self.cells.give(old);
         }
-        true
+        Ok(())
     }
 
-    fn node_room(&self, missing: usize, children: usize) -> bool {
+    fn node_room(&self, missing: usize, children: usize) -> Result<(), Shortage> {
         let nodes = &self.nodes;
         if missing == 0 {
-            return true;
+            return Ok(());
         }
         if children == 0 {
-            return nodes.end_holds(missing.saturating_sub(nodes.free[0]));
+            return nodes.end_holds(missing.saturating_sub(nodes.free[0]), 0);
         }
         let (old, new) = (nodes.tier(children), nodes.tier(children + 1));
         let mut singles = nodes.free[0];
         let mut end = 0;
         if new > old {
             end += nodes.end_supplies(new);
+            nodes.end_holds(end, new)?;
             singles += usize::from(old == 0);
         }
         end += (missing - 1).saturating_sub(singles);
-        nodes.end_holds(end)
+        nodes.end_holds(end, 0)
     }
 
-    fn data_room(&self, data: usize) -> bool {
+    fn data_room(&self, data: usize) -> Result<(), Shortage> {
         let cells = &self.cells;
         let new = cells.tier(data + 1);
         let needs = data == 0 || new > cells.tier(data);
-        !needs || cells.end_holds(cells.end_supplies(new))
+        let end = if needs { cells.end_supplies(new) } else { 0 };
+        cells.end_holds(end, new)
     }
 
     fn add_nodes(&mut self, missing: usize, children: usize) {
@@ -142,9 +167,13 @@ impl Ledger {
         }
     }
 
-    /// Books the removal of a stored prefix, `after` being the rules without it; false where there
-    /// is no room.
-    pub fn remove(&mut self, rules: &Rules, after: &Rules, (key, length): Prefix) -> bool {
+    /// Books the removal of a stored prefix, `after` being the rules without it, where there is room.
+    pub fn remove(
+        &mut self,
+        rules: &Rules,
+        after: &Rules,
+        (key, length): Prefix,
+    ) -> Result<(), Shortage> {
         let depth = node_depth(length);
         let data = rules.data_count(key, depth);
         let emptied = (0..=depth)
@@ -155,33 +184,27 @@ impl Ledger {
         let children = rules.child_count(key, parent);
         let mut cells = self.cells.clone();
         let mut nodes = self.nodes.clone();
-        if !shrink(&mut cells, data) {
-            return false;
-        }
+        shrink(&mut cells, data)?;
         if emptied > 0 {
             for _ in 1..emptied {
                 nodes.give(0);
             }
-            if !shrink(&mut nodes, children) {
-                return false;
-            }
+            shrink(&mut nodes, children)?;
         }
         (self.nodes, self.cells) = (nodes, cells);
-        true
+        Ok(())
     }
 }
 
 /// A count falls by one: to 0 it returns its block, to a lower tier it needs the smaller one first.
-fn shrink(pool: &mut Pool, count: usize) -> bool {
+fn shrink(pool: &mut Pool, count: usize) -> Result<(), Shortage> {
     let (old, new) = (pool.tier(count), pool.tier(count - 1));
     if count > 1 && new < old {
-        if !pool.end_holds(pool.end_supplies(new)) {
-            return false;
-        }
+        pool.end_holds(pool.end_supplies(new), new)?;
         pool.take(new);
     }
     if count == 1 || new < old {
         pool.give(old);
     }
-    true
+    Ok(())
 }
