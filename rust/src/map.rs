@@ -299,6 +299,7 @@ impl<M: DerefMut<Target = [u32]>> Map<M> {
     /// map.insert((0x0A000100, 27), 1)?;
     /// assert_eq!(map.get((0x0A000113, 27)), Ok(Some(1))); // bits behind the length don't count
     /// assert_eq!(map.get((0x0A000100, 26)), Ok(None));
+    /// assert_eq!(map.get((0x0A000113, 32)), Ok(None)); // covered, not stored
     /// assert_eq!(map.get((0x0A000100, 33)), Err(Refusal::TooLong));
     /// # Ok::<(), hestrovik::Refusal>(())
     /// ```
