@@ -13,7 +13,7 @@ use crate::counts::Counts;
 use crate::harm::{any_call, any_damage, other_length};
 use crate::memory::{state_of, state_words, Words, SLICES};
 use crate::outcomes::{allowed_outcome, fits};
-use crate::subject::{Port, Subject};
+use crate::subject::Subject;
 
 /// Cases from one history, and how many of them share its length.
 const CASES: usize = 48;
@@ -48,7 +48,7 @@ pub struct Case {
 }
 
 /// Plays cases from one history. The first that goes wrong is handed back with what went wrong.
-pub fn play(
+pub fn play<S: Subject>(
     history: &History,
     seed: u64,
     guards: usize,
@@ -62,13 +62,13 @@ pub fn play(
             pools: history.pools,
             records: history.records[..cut as usize].to_vec(),
         };
-        let port = played(&history);
-        let words = port.words();
-        let stored = stored(&port, &history);
+        let subject = played::<S>(&history);
+        let words = subject.words();
+        let stored = stored(subject, &history);
         for _ in 0..CASES_ALIKE {
             let call = any_call(&mut by, &history, &stored);
             let damage = any_damage(&mut by, &words);
-            match check(&words, &damage, call, guards) {
+            match check::<S>(&words, &damage, call, guards) {
                 Ok(answer) => counts.damaged_call(call.operation, &answer),
                 Err(what) => {
                     let case = Case {
@@ -85,51 +85,61 @@ pub fn play(
 }
 
 /// Plays a whole case.
-pub fn replay(case: &Case, guards: usize) -> Result<Answer, String> {
-    let words = played(&case.history).words();
-    check(&words, &case.damage, case.call, guards)
+pub fn replay<S: Subject>(case: &Case, guards: usize) -> Result<Answer, String> {
+    let words = played::<S>(&case.history).words();
+    check::<S>(&words, &case.damage, case.call, guards)
 }
 
 /// The map after a history.
-fn played(history: &History) -> Port {
+fn played<S: Subject>(history: &History) -> S {
     let pools = history.pools;
-    let mut port = Port::over(&Words::unused(pools), 0);
-    port.fresh(pools.nodes as u32, pools.cells as u32);
+    let mut subject = S::over(&Words::unused(pools), 0);
+    subject.fresh(pools.nodes as u32, pools.cells as u32);
     for record in &history.records {
-        port.call(*record);
+        subject.call(*record);
     }
-    port
+    subject
 }
 
 /// The prefixes of a history that are stored at its end.
-fn stored(port: &Port, history: &History) -> Vec<(u32, u32)> {
+fn stored(mut subject: impl Subject, history: &History) -> Vec<(u32, u32)> {
     let places = history.records.iter();
     let places = places.map(|record| (record.key, record.length.into()));
-    let mut port = port.clone();
-    let mut found =
-        |(key, length)| port.ask(Operation::Exact, key, length, 0).number == number::DONE;
+    let mut found = |(key, length)| {
+        let answer = subject.ask(Operation::Exact, key, length, 0);
+        answer.number == number::DONE
+    };
     places.filter(|place| found(*place)).collect()
 }
 
 /// Damages the words, makes the call twice and tests both outcomes.
-fn check(words: &Words, damage: &[Damage], call: Call, guards: usize) -> Result<Answer, String> {
+fn check<S: Subject>(
+    words: &Words,
+    damage: &[Damage],
+    call: Call,
+    guards: usize,
+) -> Result<Answer, String> {
     let mut before = words.clone();
     damage.iter().for_each(|damage| damage.to(&mut before));
-    let (answer, after) = outcome(&before, call, guards)?;
+    let (answer, after) = outcome::<S>(&before, call, guards)?;
     allowed_outcome(&before, call, &answer, &after)?;
-    let again = outcome(&before, call, guards)?;
+    let again = outcome::<S>(&before, call, guards)?;
     if again != (answer, after) {
         return Err(format!("the same call had another outcome: {:?}", again.0));
     }
     Ok(answer)
 }
 
-fn outcome(before: &Words, call: Call, guards: usize) -> Result<(Answer, Words), String> {
-    let mut port = Port::over(before, guards);
-    let answer = port.ask(call.operation, call.key, call.length, call.value);
-    match port.lent.stray_write() {
+fn outcome<S: Subject>(
+    before: &Words,
+    call: Call,
+    guards: usize,
+) -> Result<(Answer, Words), String> {
+    let mut subject = S::over(before, guards);
+    let answer = subject.ask(call.operation, call.key, call.length, call.value);
+    match subject.lent().stray_write() {
         Some(stray) => Err(stray),
-        None => Ok((answer, port.words())),
+        None => Ok((answer, subject.words())),
     }
 }
 
@@ -156,7 +166,7 @@ impl Damage {
 
 /// Fresh starts over whatever stands in memory: with the right lengths every word is written, with
 /// another nothing is and the state is all zeros.
-pub fn starts(seed: u64, guards: usize, counts: &mut Counts) -> Result<(), String> {
+pub fn starts<S: Subject>(seed: u64, guards: usize, counts: &mut Counts) -> Result<(), String> {
     let mut by = Seed::new(seed.rotate_left(32));
     let pools = Pools {
         nodes: 1 + by.below(100) as usize,
@@ -183,8 +193,8 @@ pub fn starts(seed: u64, guards: usize, counts: &mut Counts) -> Result<(), Strin
         state: sized,
         ..words.clone()
     };
-    let mut port = Port::over(&words, guards);
-    let answer = port.fresh(nodes, cells);
+    let mut subject = S::over(&words, guards);
+    let answer = subject.fresh(nodes, cells);
     let (number, expected) = if fits(&asked, true) {
         (number::DONE, Words::of(&Desk::new(pools).image(), pools))
     } else {
@@ -198,10 +208,10 @@ pub fn starts(seed: u64, guards: usize, counts: &mut Counts) -> Result<(), Strin
     if answer != bare {
         return Err(format!("{place}: {answer:?}, expected {bare:?}"));
     }
-    if let Some(stray) = port.lent.stray_write() {
+    if let Some(stray) = subject.lent().stray_write() {
         return Err(format!("{place}: {stray}"));
     }
-    if let Some(what) = port.words().first_difference(&expected) {
+    if let Some(what) = subject.words().first_difference(&expected) {
         return Err(format!("{place}: {what}"));
     }
     counts.starts[usize::from(number != number::DONE)] += 1;

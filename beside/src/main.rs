@@ -1,18 +1,14 @@
-//! The command: seeds by the thousand, or one case again.
+//! The command: its options, the progress line, standard output.
 
+use std::env;
 use std::io::{self, IsTerminal, Write};
 use std::path::{Path, PathBuf};
 use std::process::ExitCode;
 use std::time::{Duration, Instant};
-use std::{env, fs};
 
-use beside::case::{self, File};
-use beside::compare::{compare, Difference, History};
 use beside::counts::Counts;
-use beside::damage::{self, Case};
-use beside::histories::history_of;
 use beside::memory::GUARDS;
-use beside::shrink;
+use beside::run::{replay, End, Run};
 use beside::subject::Port;
 use judge::options::Options;
 
@@ -29,7 +25,7 @@ const OFTEN: Duration = Duration::from_millis(500);
 const SELDOM: Duration = Duration::from_secs(10);
 
 fn main() -> ExitCode {
-    match obey() {
+    match obey().and_then(say) {
         Ok(status) => status,
         Err(line) => {
             // What the options refuse begins with the command's name already.
@@ -39,7 +35,7 @@ fn main() -> ExitCode {
     }
 }
 
-fn obey() -> Result<ExitCode, String> {
+fn obey() -> Result<End, String> {
     let words: Result<Vec<String>, _> = env::args_os().skip(1).map(|w| w.into_string()).collect();
     let words = words.map_err(|word| format!("{word:?} isn't UTF-8: give plain words"))?;
     let options = Options::read(
@@ -56,7 +52,7 @@ fn obey() -> Result<ExitCode, String> {
                 return Err(format!("--replay plays one case: leave {other} out"));
             }
         }
-        return replay(Path::new(options.word("--replay")?), guards);
+        return replay::<Port>(Path::new(options.word("--replay")?), guards);
     }
     if options.has("--quick") && options.has("--seeds") {
         return Err("--quick has its own number of seeds: leave one of the two out".into());
@@ -76,197 +72,50 @@ fn obey() -> Result<ExitCode, String> {
         guards,
         demanding: !options.has("--seeds"),
     };
-    run.go()
+    let mut progress = Progress::new(run.seeds);
+    let end = run.go::<Port>(|done, counts| progress.say(done, counts));
+    progress.end();
+    end
 }
 
-struct Run {
-    first: u64,
-    seeds: u64,
-    out: PathBuf,
-    guards: usize,
-    /// Whether everything that can be met has to be.
-    demanding: bool,
-}
-
-impl Run {
-    fn go(&self) -> Result<ExitCode, String> {
-        let mut counts = Counts::default();
-        let mut progress = Progress::new();
-        for turn in 0..self.seeds {
-            let seed = self.first.wrapping_add(turn);
-            let history = history_of(seed);
-            if let Some(difference) = compare::<Port>(&history, &mut counts) {
-                progress.end();
-                return self.differs(seed, &history, &difference);
-            }
-            if let Err((case, what)) = damage::play(&history, seed, self.guards, &mut counts) {
-                progress.end();
-                return self.damaged(seed, &case, &what);
-            }
-            if let Err(what) = damage::starts(seed, self.guards, &mut counts) {
-                progress.end();
-                eprintln!("beside: {what}; make it again with --from {seed} --seeds 1");
-                return Ok(ExitCode::from(DIFFERS));
-            }
-            progress.say(turn + 1, self.seeds, &counts);
+/// The report goes to standard output, a difference to standard error.
+fn say(end: End) -> Result<ExitCode, String> {
+    match end {
+        End::Same(text) => {
+            let said = writeln!(io::stdout().lock(), "{text}");
+            said.map_err(|e| format!("cannot write to standard output: {e}"))?;
+            Ok(ExitCode::SUCCESS)
         }
-        progress.end();
-        say(&counts.report())?;
-        let missing = counts.not_met();
-        if missing.is_empty() {
-            say("everything that can be met was met, and no difference was found")?;
-            return Ok(ExitCode::SUCCESS);
+        End::Differs(text) => {
+            eprintln!("beside: {text}");
+            Ok(ExitCode::from(DIFFERS))
         }
-        say(&format!("not met: {}", missing.join("; ")))?;
-        if self.demanding {
-            eprintln!("beside: the run didn't meet all that it should: see 'not met'");
-            return Ok(ExitCode::from(DIFFERS));
-        }
-        say("no difference was found")?;
-        Ok(ExitCode::SUCCESS)
     }
-
-    /// Shrinks a history, writes it down and says how to see the difference again.
-    fn differs(
-        &self,
-        seed: u64,
-        history: &History,
-        difference: &Difference,
-    ) -> Result<ExitCode, String> {
-        let first = told_at(difference);
-        eprintln!("beside: seed {seed} differs {first}; looking for the shortest history");
-        let differs = |history: &History| compare::<Port>(history, &mut Counts::default());
-        let mut short = history.clone();
-        if let Some(at) = difference.at {
-            short.records.truncate(at + 1);
-        }
-        let short = shrink::history(&short, |history| differs(history).is_some());
-        let what = differs(&short).map_or(first, |difference| told_at(&difference));
-        let text = case::history_text(&short);
-        let file = self.out.join(format!("beside-{seed}.case"));
-        let records = self.out.join(format!("beside-{seed}.records"));
-        let bytes: Vec<u8> = short.records.iter().flat_map(|r| r.encode()).collect();
-        write(&file, text.as_bytes())?;
-        write(&records, &bytes)?;
-        eprint!("{text}");
-        eprintln!("beside: the shortest history differs {what}");
-        eprintln!(
-            "beside: see it again: tests/beside --replay {}",
-            file.display()
-        );
-        eprintln!(
-            "beside: the judge's side: oracle/target/release/judge trace --nodes {} --cells {} < {}",
-            short.pools.nodes,
-            short.pools.cells,
-            records.display()
-        );
-        Ok(ExitCode::from(DIFFERS))
-    }
-
-    /// The same for a call on damaged memory.
-    fn damaged(&self, seed: u64, case: &Case, what: &str) -> Result<ExitCode, String> {
-        eprintln!("beside: seed {seed}, damaged memory: {what}; looking for the shortest case");
-        let fails = |case: &Case| damage::replay(case, self.guards).is_err();
-        let short = shorter(case, fails);
-        let file = self.out.join(format!("beside-{seed}.case"));
-        let text = case::case_text(&short);
-        write(&file, text.as_bytes())?;
-        eprint!("{text}");
-        if let Err(what) = damage::replay(&short, self.guards) {
-            eprintln!("beside: the shortest case: {what}");
-        }
-        eprintln!(
-            "beside: see it again: tests/beside --replay {}",
-            file.display()
-        );
-        Ok(ExitCode::from(DIFFERS))
-    }
-}
-
-/// Fewer damaged words, then a shorter history.
-fn shorter(case: &Case, fails: impl Fn(&Case) -> bool) -> Case {
-    let mut short = case.clone();
-    let damage = shrink::fewer(short.damage.clone(), |damage| {
-        fails(&Case {
-            damage: damage.to_vec(),
-            ..short.clone()
-        })
-    });
-    short.damage = damage;
-    let history = shrink::history(&short.history, |history| {
-        fails(&Case {
-            history: history.clone(),
-            ..short.clone()
-        })
-    });
-    short.history = history;
-    short
-}
-
-fn replay(file: &Path, guards: usize) -> Result<ExitCode, String> {
-    let text = fs::read_to_string(file)
-        .map_err(|e| format!("{} can't be read ({e}): give a case file", file.display()))?;
-    let read = case::read(&text).map_err(|what| format!("{}: {what}", file.display()))?;
-    match read {
-        File::History(history) => match compare::<Port>(&history, &mut Counts::default()) {
-            Some(difference) => {
-                eprintln!("beside: differs {}", told_at(&difference));
-                return Ok(ExitCode::from(DIFFERS));
-            }
-            None => say(&format!("{} records: no difference", history.records.len()))?,
-        },
-        File::Damaged(case) => match damage::replay(&case, guards) {
-            Err(what) => {
-                eprintln!("beside: damaged memory: {what}");
-                return Ok(ExitCode::from(DIFFERS));
-            }
-            Ok(answer) => say(&format!("the call's outcome is allowed: {answer:?}"))?,
-        },
-    }
-    Ok(ExitCode::SUCCESS)
-}
-
-fn told_at(difference: &Difference) -> String {
-    let what = &difference.what;
-    match difference.at {
-        Some(at) => format!("at record {at}: {what}"),
-        None => format!("at the fresh start: {what}"),
-    }
-}
-
-fn write(file: &Path, bytes: &[u8]) -> Result<(), String> {
-    fs::write(file, bytes).map_err(|e| {
-        let file = file.display();
-        format!("{file} can't be written ({e}): name another folder with --out")
-    })
-}
-
-fn say(text: &str) -> Result<(), String> {
-    let mut output = io::stdout().lock();
-    writeln!(output, "{text}").map_err(|e| format!("cannot write to standard output: {e}"))
 }
 
 /// The progress line on standard error.
 struct Progress {
+    of: u64,
     last: Instant,
     terminal: bool,
 }
 
 impl Progress {
-    fn new() -> Progress {
+    fn new(of: u64) -> Progress {
         Progress {
+            of,
             last: Instant::now(),
             terminal: io::stderr().is_terminal(),
         }
     }
 
-    fn say(&mut self, done: u64, of: u64, counts: &Counts) {
+    fn say(&mut self, done: u64, counts: &Counts) {
         let pause = if self.terminal { OFTEN } else { SELDOM };
         if self.last.elapsed() < pause {
             return;
         }
         self.last = Instant::now();
-        let line = format!("beside: {done} of {of} seeds: {}", counts.line());
+        let line = format!("beside: {done} of {} seeds: {}", self.of, counts.line());
         if self.terminal {
             eprint!("\r\x1b[K{line}");
         } else {

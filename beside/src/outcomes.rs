@@ -1,5 +1,5 @@
-//! What document 01 allows a call to give on any memory, as far as that can be said without walking
-//! the nodes.
+//! What a call may give on any memory: the tests that come before the steps, what every number leaves
+//! behind, and what `reading` says of the steps.
 
 use hestrovik::boundary::{number, Answer, State};
 use hestrovik::lengths::allowed;
@@ -9,6 +9,7 @@ use judge::record::{Operation, LENGTH_MAX};
 use crate::counts::numbers;
 use crate::damage::Call;
 use crate::memory::{both_sections, right_lengths, Words};
+use crate::reading;
 
 /// Whether an outcome is allowed; if not, what is wrong with it.
 pub fn allowed_outcome(
@@ -63,6 +64,25 @@ pub fn allowed_outcome(
     }
     if accepted {
         accepted_outcome(before, call, answer, after)?;
+    }
+    if fits(before, edit) && !too_long(call) && !past_limits(&before.state) {
+        as_read(before, call, answer, after)?;
+    }
+    Ok(())
+}
+
+/// Whether the steps give this answer, state and these free lists.
+fn as_read(before: &Words, call: Call, answer: &Answer, after: &Words) -> Result<(), String> {
+    let told = reading::steps(before, call);
+    if *answer != told.answer {
+        return Err(format!("the steps give {:?}: {answer:?}", told.answer));
+    }
+    if after.state != told.state {
+        let (state, told) = (after.state, told.state);
+        return Err(format!("the steps leave the state {told:?}: {state:?}"));
+    }
+    if call.operation.is_edit() && after.slices[2..] != told.lists {
+        return Err(format!("the steps leave other free lists: {answer:?}"));
     }
     Ok(())
 }

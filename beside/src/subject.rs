@@ -1,6 +1,6 @@
 //! What is held beside the judge: the map through its Rust boundary.
 
-use hestrovik::boundary::{self, number, Answer, State};
+use hestrovik::boundary::{self, Answer, State};
 use judge::desk::Pools;
 use judge::record::{Operation, Record};
 
@@ -8,11 +8,29 @@ use crate::memory::{Lent, Words, GUARDS};
 
 /// Something that answers like the map and shows its words. Tests put wrong ones here.
 pub trait Subject: Sized {
-    /// A fresh start over memory that somebody used before.
-    fn start(pools: Pools) -> Result<Self, String>;
-    fn call(&mut self, record: Record) -> Answer;
+    /// Goes on with any state and words, each slice with so many guard words around it.
+    fn over(words: &Words, guards: usize) -> Self;
+    /// A fresh start over the memory as it is.
+    fn fresh(&mut self, nodes: u32, cells: u32) -> Answer;
+    /// Any other call; the length may be any number.
+    fn ask(&mut self, operation: Operation, key: u32, length: u32, value: u32) -> Answer;
     fn state(&self) -> State;
     fn lent(&self) -> &Lent;
+
+    /// A fresh start over memory that somebody used before.
+    fn start(pools: Pools) -> Result<Self, String> {
+        let mut subject = Self::over(&Words::unused(pools), GUARDS);
+        let answer = subject.fresh(pools.nodes as u32, pools.cells as u32);
+        if answer == Answer::default() {
+            return Ok(subject);
+        }
+        Err(format!("the map answers {answer:?}"))
+    }
+
+    fn call(&mut self, record: Record) -> Answer {
+        let length = record.length.into();
+        self.ask(record.operation, record.key, length, record.value)
+    }
 
     /// All words, to be compared.
     fn words(&self) -> Words {
@@ -30,25 +48,22 @@ pub struct Port {
     pub lent: Lent,
 }
 
-impl Port {
-    /// Goes on with any state and words.
-    pub fn over(words: &Words, guards: usize) -> Port {
+impl Subject for Port {
+    fn over(words: &Words, guards: usize) -> Port {
         Port {
             state: words.state,
             lent: Lent::new(&words.slices, guards),
         }
     }
 
-    /// A fresh start over the memory as it is.
-    pub fn fresh(&mut self, nodes: u32, cells: u32) -> Answer {
+    fn fresh(&mut self, nodes: u32, cells: u32) -> Answer {
         let [n, d, node_free, cell_free] = self.lent.slices_mut();
         let edit = boundary::fresh(n, d, node_free, cell_free, nodes, cells);
         self.state = edit.state;
         edit.answer
     }
 
-    /// Any call; the length may be any number.
-    pub fn ask(&mut self, operation: Operation, key: u32, length: u32, value: u32) -> Answer {
+    fn ask(&mut self, operation: Operation, key: u32, length: u32, value: u32) -> Answer {
         let state = self.state;
         let [nodes, cells, node_free, cell_free] = self.lent.slices_mut();
         let edit = match operation {
@@ -64,23 +79,6 @@ impl Port {
         };
         self.state = edit.state;
         edit.answer
-    }
-}
-
-impl Subject for Port {
-    fn start(pools: Pools) -> Result<Port, String> {
-        let mut port = Port::over(&Words::unused(pools), GUARDS);
-        let answer = port.fresh(pools.nodes as u32, pools.cells as u32);
-        if answer != Answer::default() {
-            return Err(format!("a fresh start got {answer:?}"));
-        }
-        debug_assert_eq!(answer.number, number::DONE);
-        Ok(port)
-    }
-
-    fn call(&mut self, record: Record) -> Answer {
-        let length = record.length.into();
-        self.ask(record.operation, record.key, length, record.value)
     }
 
     fn state(&self) -> State {

@@ -2,6 +2,8 @@
 //! comparison that notices nothing fails here.
 
 use std::marker::PhantomData;
+use std::path::Path;
+use std::{env, fs, process};
 
 use beside::case::{self, File};
 use beside::compare::{compare, History};
@@ -10,15 +12,30 @@ use beside::damage::Call;
 use beside::histories::history_of;
 use beside::memory::{both_sections, state_of, state_words, Lent, Words, GUARDS, STATE_WORDS};
 use beside::outcomes::allowed_outcome;
+use beside::run::{replay, End, Run};
 use beside::shrink;
 use beside::subject::{Port, Subject};
 use hestrovik::boundary::{number, Answer, State};
 use judge::desk::{Desk, Pools};
-use judge::record::{Operation, Record};
+use judge::record::Operation;
 
 /// A fault: it may make the call itself, or spoil what the map made of it.
 trait Fault {
-    fn call(port: &mut Port, record: Record) -> Answer;
+    fn call(port: &mut Port, record: Wide) -> Answer;
+}
+
+/// A call whose length may be any number.
+#[derive(Clone, Copy)]
+struct Wide {
+    operation: Operation,
+    key: u32,
+    length: u32,
+    value: u32,
+}
+
+/// The map's own answer.
+fn right(port: &mut Port, call: Wide) -> Answer {
+    port.ask(call.operation, call.key, call.length, call.value)
 }
 
 /// A map with a fault.
@@ -28,14 +45,24 @@ struct Faulty<F> {
 }
 
 impl<F: Fault> Subject for Faulty<F> {
-    fn start(pools: Pools) -> Result<Self, String> {
-        let port = Port::start(pools)?;
+    fn over(words: &Words, guards: usize) -> Self {
+        let port = Port::over(words, guards);
         let fault = PhantomData;
-        Ok(Faulty { port, fault })
+        Faulty { port, fault }
     }
 
-    fn call(&mut self, record: Record) -> Answer {
-        F::call(&mut self.port, record)
+    fn fresh(&mut self, nodes: u32, cells: u32) -> Answer {
+        self.port.fresh(nodes, cells)
+    }
+
+    fn ask(&mut self, operation: Operation, key: u32, length: u32, value: u32) -> Answer {
+        let call = Wide {
+            operation,
+            key,
+            length,
+            value,
+        };
+        F::call(&mut self.port, call)
     }
 
     fn state(&self) -> State {
@@ -53,8 +80,8 @@ macro_rules! faults {
             $(#[$doc])*
             struct $name;
             impl Fault for $name {
-                fn call(port: &mut Port, record: Record) -> Answer {
-                    let call: fn(&mut Port, Record) -> Answer = $call;
+                fn call(port: &mut Port, record: Wide) -> Answer {
+                    let call: fn(&mut Port, Wide) -> Answer = $call;
                     call(port, record)
                 }
             }
@@ -70,15 +97,15 @@ faults! {
     /// The batch's rule for the held cell.
     ShortestForLongest = |port, mut record| {
         if record.operation == Operation::Longest {
-            let nodes = port.call(record).nodes;
+            let nodes = right(port, record).nodes;
             record.operation = Operation::Shortest;
-            return Answer { nodes, ..port.call(record) };
+            return Answer { nodes, ..right(port, record) };
         }
-        port.call(record)
+        right(port, record)
     };
     /// The deepest node alone is asked: a shallow one may hold the answer.
     MissesShallowRules = |port, record| {
-        let answer = port.call(record);
+        let answer = right(port, record);
         if record.operation == Operation::Longest && answer.nodes > answer.len / 5 + 1 {
             let nodes = answer.nodes;
             return Answer { number: number::NOTHING, nodes, ..Answer::default() };
@@ -86,32 +113,32 @@ faults! {
         answer
     };
     InventsANodeCount = |port, record| {
-        let answer = port.call(record);
+        let answer = right(port, record);
         Answer { nodes: answer.nodes.min(6), ..answer }
     };
     CountsNodesOfAnEdit = |port, record| {
-        let answer = port.call(record);
+        let answer = right(port, record);
         let edit = record.operation.is_edit() && answer.number == number::REPLACED;
         Answer { nodes: answer.nodes + u32::from(edit), ..answer }
     };
     LeavesTheKeyUntidy = |port, record| {
-        let answer = port.call(record);
+        let answer = right(port, record);
         let key = if accepted(&answer) && answer.len > 30 { record.key } else { answer.key };
         Answer { key, ..answer }
     };
     TakesLength33 = |port, mut record| {
         record.length = record.length.min(32);
-        port.call(record)
+        right(port, record)
     };
     RefusesEverything = |_, _| Answer { number: number::NO_ROOM, ..Answer::default() };
     RefusesWhenTheEndIsUsedUp = |port, record| {
         if record.operation == Operation::Insert && port.state.cell_mark == port.state.cell_size {
             return Answer { number: number::NO_ROOM, ..Answer::default() };
         }
-        port.call(record)
+        right(port, record)
     };
     RefusesNoRemoval = |port, record| {
-        let answer = port.call(record);
+        let answer = right(port, record);
         if record.operation == Operation::Remove && answer.number == number::NO_ROOM {
             return Answer { number: number::NOTHING, ..answer };
         }
@@ -119,7 +146,7 @@ faults! {
     };
     StoresNothing = |port, record| {
         let before = port.clone();
-        let answer = port.call(record);
+        let answer = right(port, record);
         if record.operation == Operation::Insert {
             *port = before;
         }
@@ -129,16 +156,16 @@ faults! {
         if record.operation == Operation::Insert && record.value == 0 {
             record.value = 1;
         }
-        port.call(record)
+        right(port, record)
     };
     GivesTheNewValueAtAReplacement = |port, record| {
-        let answer = port.call(record);
+        let answer = right(port, record);
         let value = if answer.number == number::REPLACED { record.value } else { answer.value };
         Answer { value, ..answer }
     };
     LeavesAVacatedCell = |port, record| {
         let before = port.words();
-        let answer = port.call(record);
+        let answer = right(port, record);
         if record.operation == Operation::Remove && accepted(&answer) {
             let cells = &mut port.lent.slices_mut()[1];
             let vacated = cells.iter().zip(&before.slices[1]).rposition(|(new, old)| *new == 0 && *old != 0);
@@ -150,7 +177,7 @@ faults! {
     };
     LeavesAVacatedNode = |port, record| {
         let before = port.words();
-        let answer = port.call(record);
+        let answer = right(port, record);
         if record.operation == Operation::Remove && accepted(&answer) {
             let nodes = &mut port.lent.slices_mut()[0];
             let empty = [0, 0, u32::MAX, u32::MAX];
@@ -164,7 +191,7 @@ faults! {
     };
     LeavesAPoppedEntry = |port, record| {
         let before = port.words();
-        let answer = port.call(record);
+        let answer = right(port, record);
         let list = &mut port.lent.slices_mut()[3];
         let popped = list.iter().zip(&before.slices[3]).position(|(new, old)| *new == 0 && *old != 0);
         if let Some(at) = popped {
@@ -174,7 +201,7 @@ faults! {
     };
     /// The first returned block is taken first.
     ReordersAFreeList = |port, record| {
-        let answer = port.call(record);
+        let answer = right(port, record);
         let state = port.state;
         let sections = both_sections(&state)[0];
         let mut start = 0;
@@ -189,7 +216,7 @@ faults! {
     };
     ForgetsToCountARemoval = |port, record| {
         let rules = port.state.rules;
-        let answer = port.call(record);
+        let answer = right(port, record);
         if record.operation == Operation::Remove && accepted(&answer) {
             port.state.rules = rules;
         }
@@ -197,28 +224,28 @@ faults! {
     };
     IssuesOneTooMany = |port, record| {
         let mark = port.state.node_mark;
-        let answer = port.call(record);
+        let answer = right(port, record);
         if port.state.node_mark > mark + 1 && port.state.node_mark < port.state.node_size {
             port.state.node_mark += 1;
         }
         answer
     };
     WritesBeforeItRefuses = |port, record| {
-        let answer = port.call(record);
+        let answer = right(port, record);
         if answer.number == number::NO_ROOM {
             port.lent.slices_mut()[1][0] ^= 1;
         }
         answer
     };
     WritesAtALookup = |port, record| {
-        let answer = port.call(record);
+        let answer = right(port, record);
         if record.operation == Operation::Shortest {
             port.lent.slices_mut()[0][1] ^= 1;
         }
         answer
     };
     WritesPastTheCells = |port, record| {
-        let answer = port.call(record);
+        let answer = right(port, record);
         if answer.number == number::NO_ROOM {
             if let Some(word) = port.lent.area_mut(1).last_mut() {
                 *word = 0;
@@ -227,9 +254,68 @@ faults! {
         answer
     };
     WritesBeforeTheNodes = |port, record| {
-        let answer = port.call(record);
+        let answer = right(port, record);
         if answer.number == number::REPLACED {
             port.lent.area_mut(0)[GUARDS - 1] = 7;
+        }
+        answer
+    };
+}
+
+faults! {
+    /// On damaged memory alone: from a fresh start these are the map.
+    CallsBrokenMemoryNothing = |port, call| {
+        let answer = right(port, call);
+        match answer.number {
+            number::BROKEN => Answer { number: number::NOTHING, ..answer },
+            _ => answer,
+        }
+    };
+    LetsNoRoomGoBeforeBroken = |port, call| {
+        let answer = right(port, call);
+        match answer.number {
+            number::BROKEN if call.operation == Operation::Insert => Answer { number: number::NO_ROOM, ..answer },
+            _ => answer,
+        }
+    };
+    CallsWrongSlicesBroken = |port, call| {
+        let answer = right(port, call);
+        match answer.number {
+            number::WRONG_SLICE => Answer { number: number::BROKEN, ..answer },
+            _ => answer,
+        }
+    };
+    WritesBeforeItFindsBroken = |port, call| {
+        let answer = right(port, call);
+        if answer.number == number::BROKEN {
+            port.lent.slices_mut()[0][0] ^= 1;
+        }
+        answer
+    };
+    WritesOutsideWhenBroken = |port, call| {
+        let answer = right(port, call);
+        if answer.number == number::BROKEN {
+            if let Some(word) = port.lent.area_mut(3).last_mut() {
+                *word ^= 1;
+            }
+        }
+        answer
+    };
+    CutsLengthsToAByte = |port, mut call| {
+        call.length %= 256;
+        right(port, call)
+    };
+    TrustsAFreeEntry = |port, call| {
+        let before = port.clone();
+        let answer = right(port, call);
+        if answer.number == number::BROKEN && call.operation == Operation::Insert {
+            let mut sound = before;
+            sound.lent.slices_mut()[3].fill(0);
+            let trusted = right(&mut sound, call);
+            if accepted(&trusted) {
+                *port = sound;
+                return trusted;
+            }
         }
         answer
     };
@@ -294,6 +380,60 @@ fn wrong_memory_is_noticed() {
     noticed::<WritesAtALookup>(1);
     noticed::<WritesPastTheCells>(4);
     noticed::<WritesBeforeTheNodes>(2);
+}
+
+/// A whole run ends at the fault, writes a case, and the case shows it again, but not with the map.
+fn run_ends_at<F: Fault>(part: &str) -> String {
+    let name = std::any::type_name::<F>();
+    let name = name.rsplit(':').next().unwrap_or(name);
+    let out = env::temp_dir().join(format!("beside-{}-{name}", process::id()));
+    fs::create_dir_all(&out).unwrap();
+    let run = Run {
+        first: 0,
+        seeds: 400,
+        out: out.clone(),
+        guards: GUARDS,
+        demanding: false,
+    };
+    let End::Differs(said) = run.go::<Faulty<F>>(|_, _| ()).unwrap() else {
+        panic!("{name} isn't noticed");
+    };
+    assert!(said.contains(part), "{name}: {said}");
+    let line = said
+        .lines()
+        .find_map(|line| line.strip_prefix("see it again: tests/beside --replay "));
+    let case = Path::new(line.unwrap_or_else(|| panic!("{name}: {said}")));
+    let again = replay::<Faulty<F>>(case, GUARDS).unwrap();
+    assert!(matches!(again, End::Differs(_)), "{name}: {said}");
+    let right = replay::<Port>(case, GUARDS).unwrap();
+    assert!(matches!(right, End::Same(_)), "{name}: {right:?}");
+    fs::remove_dir_all(&out).unwrap();
+    said
+}
+
+#[test]
+fn wrong_maps_on_damaged_memory_are_noticed() {
+    run_ends_at::<CallsBrokenMemoryNothing>("damaged memory: ");
+    run_ends_at::<LetsNoRoomGoBeforeBroken>("damaged memory: ");
+    run_ends_at::<CallsWrongSlicesBroken>("number 3 is for slices and sizes that don't fit");
+    run_ends_at::<WritesBeforeItFindsBroken>("a refusal or a lookup changed a word");
+    run_ends_at::<WritesOutsideWhenBroken>("a word outside cell_free was written");
+    run_ends_at::<CutsLengthsToAByte>("number 1 is for lengths above 32");
+    run_ends_at::<TrustsAFreeEntry>("damaged memory: ");
+}
+
+#[test]
+fn a_whole_run_says_where_it_differs() {
+    let said = run_ends_at::<ShortestForLongest>(
+        "the shortest history that still differs:\npools 1024 2048\n",
+    );
+    assert!(
+        said.contains("judge trace --nodes 1024 --cells 2048 < "),
+        "{said}"
+    );
+    assert_eq!(said.matches("\nrecord ").count(), 3, "{said}");
+    run_ends_at::<ReordersAFreeList>("node_free word ");
+    run_ends_at::<ForgetsToCountARemoval>("the state's rule count");
 }
 
 /// The map itself shows nothing on the same seeds.
