@@ -37,9 +37,16 @@ fn main() {
 fn folder() -> Result<PathBuf, String> {
     let package = PathBuf::from(env::var_os("CARGO_MANIFEST_DIR").unwrap_or_default());
     let named = env::var_os(VARIABLE).filter(|named| !named.is_empty());
-    let (folder, remedy) = match named {
+    let (folder, remedy) = match named.map(PathBuf::from) {
+        // Cargo builds in a folder of its own choice, so a relative one would mean different places.
+        Some(named) if named.is_relative() => {
+            let named = named.display();
+            return Err(format!(
+                "{VARIABLE} is {named}, a relative folder: give its whole path, from / on"
+            ));
+        }
         Some(named) => (
-            package.join(named),
+            named,
             format!("set {VARIABLE} to the folder that holds it"),
         ),
         None => (

@@ -7,11 +7,11 @@
 //! record TWELVE_BYTES            in hexadecimal, as the bench program takes them; any number of these
 //! length SLICE LENGTH            a slice is lent with another length
 //! word SLICE INDEX VALUE         a word is damaged; SLICE may be state, VALUE is hexadecimal
-//! call OPERATION KEY LENGTH VALUE
+//! call OPERATION KEY LENGTH VALUE  any number of these
 //! ```
 //!
 //! SLICE is `nodes`, `cells`, `node_free` or `cell_free`. With no `call` the case is a history for both
-//! sides; with one it is a call on damaged memory.
+//! sides; with one or more they are calls on damaged memory.
 
 use judge::desk::Pools;
 use judge::record::{Operation, Record, RECORD};
@@ -49,14 +49,12 @@ pub fn case_text(case: &Case) -> String {
             Damage::Length { slice, length } => format!("length {} {length}\n", SLICES[slice]),
         };
     }
-    let Call {
-        operation,
-        key,
-        length,
-        value,
-    } = case.call;
-    let name = operation_name(operation);
-    text + &format!("call {name} {key:08x} {length} {value:08x}\n")
+    for call in &case.calls {
+        let (key, length, value) = (call.key, call.length, call.value);
+        let name = operation_name(call.operation);
+        text += &format!("call {name} {key:08x} {length} {value:08x}\n");
+    }
+    text
 }
 
 /// Reads a case; what is wrong is said with its line.
@@ -64,7 +62,7 @@ pub fn read(text: &str) -> Result<File, String> {
     let mut pools = None;
     let mut records = Vec::new();
     let mut damage = Vec::new();
-    let mut call = None;
+    let mut calls = Vec::new();
     for (at, line) in text.lines().enumerate() {
         let words: Vec<&str> = line.split_whitespace().collect();
         let done = match words[..] {
@@ -75,7 +73,7 @@ pub fn read(text: &str) -> Result<File, String> {
             ["length", slice, length] => read_length(slice, length).map(|read| damage.push(read)),
             ["word", area, at, value] => read_word(area, at, value).map(|read| damage.push(read)),
             ["call", name, key, length, value] => {
-                read_call(name, key, length, value).map(|read| call = Some(read))
+                read_call(name, key, length, value).map(|read| calls.push(read))
             }
             _ => Err("give pools, record, length, word or call with what belongs to it".into()),
         };
@@ -83,15 +81,17 @@ pub fn read(text: &str) -> Result<File, String> {
     }
     let pools = pools.ok_or("no line `pools NODES CELLS`: give the sizes of the pools")?;
     let history = History { pools, records };
-    match call {
-        Some(call) => Ok(File::Damaged(Case {
+    if !calls.is_empty() {
+        return Ok(File::Damaged(Case {
             history,
             damage,
-            call,
-        })),
-        None if damage.is_empty() => Ok(File::History(history)),
-        None => Err("memory is damaged and no call follows: give a line `call`".into()),
+            calls,
+        }));
     }
+    if !damage.is_empty() {
+        return Err("memory is damaged and no call follows: give a line `call`".into());
+    }
+    Ok(File::History(history))
 }
 
 fn read_pools(nodes: &str, cells: &str) -> Result<Pools, String> {

@@ -19,6 +19,9 @@ use crate::subject::Subject;
 const CASES: usize = 48;
 const CASES_ALIKE: usize = 8;
 
+/// The most calls that follow on the damage.
+const MOST_CALLS: u32 = 8;
+
 /// The place of the state among the areas, behind the four slices.
 pub const STATE: usize = SLICES.len();
 
@@ -39,12 +42,12 @@ pub struct Call {
     pub value: u32,
 }
 
-/// A history, what is done to its memory, and the call that follows.
+/// A history, what is done to its memory, and the calls that follow, each on what the one before left.
 #[derive(Clone, Debug, PartialEq, Eq)]
 pub struct Case {
     pub history: History,
     pub damage: Vec<Damage>,
-    pub call: Call,
+    pub calls: Vec<Call>,
 }
 
 /// Plays cases from one history. The first that goes wrong is handed back with what went wrong.
@@ -66,15 +69,20 @@ pub fn play<S: Subject>(
         let words = subject.words();
         let stored = stored(subject, &history);
         for _ in 0..CASES_ALIKE {
-            let call = any_call(&mut by, &history, &stored);
+            let count = 1 + by.below(MOST_CALLS).min(by.below(MOST_CALLS));
+            let calls = (0..count).map(|_| any_call(&mut by, &history, &stored));
+            let calls: Vec<Call> = calls.collect();
             let damage = any_damage(&mut by, &words);
-            match check::<S>(&words, &damage, call, guards) {
-                Ok(answer) => counts.damaged_call(call.operation, &answer),
+            match check::<S>(&words, &damage, &calls, guards) {
+                Ok(answers) => calls
+                    .iter()
+                    .zip(&answers)
+                    .for_each(|(call, answer)| counts.damaged_call(call.operation, answer)),
                 Err(what) => {
                     let case = Case {
                         history,
                         damage,
-                        call,
+                        calls,
                     };
                     return Err((case, what));
                 }
@@ -85,9 +93,9 @@ pub fn play<S: Subject>(
 }
 
 /// Plays a whole case.
-pub fn replay<S: Subject>(case: &Case, guards: usize) -> Result<Answer, String> {
+pub fn replay<S: Subject>(case: &Case, guards: usize) -> Result<Vec<Answer>, String> {
     let words = played::<S>(&case.history).words();
-    check::<S>(&words, &case.damage, case.call, guards)
+    check::<S>(&words, &case.damage, &case.calls, guards)
 }
 
 /// The map after a history.
@@ -112,22 +120,31 @@ fn stored(mut subject: impl Subject, history: &History) -> Vec<(u32, u32)> {
     places.filter(|place| found(*place)).collect()
 }
 
-/// Damages the words, makes the call twice and tests both outcomes.
+/// Damages the words, makes each call twice and tests both outcomes.
 fn check<S: Subject>(
     words: &Words,
     damage: &[Damage],
-    call: Call,
+    calls: &[Call],
     guards: usize,
-) -> Result<Answer, String> {
+) -> Result<Vec<Answer>, String> {
     let mut before = words.clone();
     damage.iter().for_each(|damage| damage.to(&mut before));
-    let (answer, after) = outcome::<S>(&before, call, guards)?;
-    allowed_outcome(&before, call, &answer, &after)?;
-    let again = outcome::<S>(&before, call, guards)?;
-    if again != (answer, after) {
-        return Err(format!("the same call had another outcome: {:?}", again.0));
+    let mut answers = Vec::new();
+    for (at, call) in calls.iter().enumerate() {
+        let placed = |what: String| format!("call {at}: {what}");
+        let (answer, after) = outcome::<S>(&before, *call, guards).map_err(placed)?;
+        allowed_outcome(&before, *call, &answer, &after).map_err(placed)?;
+        let again = outcome::<S>(&before, *call, guards).map_err(placed)?;
+        if again != (answer, after.clone()) {
+            let again = again.0;
+            return Err(placed(format!(
+                "the same call had another outcome: {again:?}"
+            )));
+        }
+        answers.push(answer);
+        before = after;
     }
-    Ok(answer)
+    Ok(answers)
 }
 
 fn outcome<S: Subject>(

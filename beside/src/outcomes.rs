@@ -65,7 +65,7 @@ pub fn allowed_outcome(
     if accepted {
         accepted_outcome(before, call, answer, after)?;
     }
-    if fits(before, edit) && !too_long(call) && !past_limits(&before.state) {
+    if fits(before, edit) && !settled_first(before, call) {
         as_read(before, call, answer, after)?;
     }
     Ok(())
@@ -143,6 +143,11 @@ fn accepted_outcome(
         }
     }
     Ok(())
+}
+
+/// Whether the length or the state's limits decide, before the steps.
+pub fn settled_first(words: &Words, call: Call) -> bool {
+    too_long(call) || past_limits(&words.state)
 }
 
 fn too_long(call: Call) -> bool {

@@ -122,9 +122,15 @@ impl Run {
     }
 }
 
-/// Fewer damaged words, then a shorter history.
+/// Fewer calls, fewer damaged words, then a shorter history.
 fn shorter(case: &Case, fails: impl Fn(&Case) -> bool) -> Case {
     let mut short = case.clone();
+    short.calls = shrink::fewer(case.calls.clone(), |calls| {
+        let calls = calls.to_vec();
+        let case = case.clone();
+        fails(&Case { calls, ..case })
+    });
+    let case = &short.clone();
     short.damage = shrink::fewer(case.damage.clone(), |damage| {
         let damage = damage.to_vec();
         let case = case.clone();
@@ -152,7 +158,7 @@ pub fn replay<S: Subject>(file: &Path, guards: usize) -> Result<End, String> {
             },
             File::Damaged(case) => match damage::replay::<S>(&case, guards) {
                 Err(what) => End::Differs(format!("damaged memory: {what}")),
-                Ok(answer) => End::Same(format!("the call's outcome is allowed: {answer:?}")),
+                Ok(answers) => End::Same(format!("every outcome is right: {answers:?}")),
             },
         },
     )
