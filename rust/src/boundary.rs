@@ -4,7 +4,8 @@
 //! themselves: the calls take any state and any slices, and answer whatever they are given, because the
 //! library is proved for every content and every length.
 //!
-//! All unsafe code of this crate stands in this file.
+//! All unsafe code of this crate stands in this file. The calls are inline, so that a caller copies the
+//! state once, to where the library reads it, and not a second time on the way.
 
 /// The number of an answer. `TOO_LONG` to `BROKEN` are refusals, and with `NOTHING` nothing is changed
 /// either.
@@ -157,6 +158,7 @@ mod library {
 
 /// Starts an empty map over `n` nodes and `d` cells and writes every word of the four slices, whose
 /// lengths [`lengths`](crate::lengths) gives; number 3 and an all-zero state where one is another.
+#[inline]
 pub fn fresh(
     nodes: &mut [u32],
     cells: &mut [u32],
@@ -187,6 +189,7 @@ pub fn fresh(
 
 /// Stores a value under the first `len` bits of a key, or replaces the one stored there.
 #[allow(clippy::too_many_arguments)] // the library's own list, four of them its memory
+#[inline]
 pub fn insert(
     state: State,
     nodes: &mut [u32],
@@ -219,6 +222,7 @@ pub fn insert(
 }
 
 /// Removes the rule of the first `len` bits of a key.
+#[inline]
 pub fn remove(
     state: State,
     nodes: &mut [u32],
@@ -248,6 +252,7 @@ pub fn remove(
 }
 
 /// The rule of exactly the first `len` bits of a key.
+#[inline]
 pub fn exact(state: State, nodes: &[u32], cells: &[u32], key: u32, len: u32) -> Answer {
     // SAFETY: two slices handed on with their own lengths; the function only reads them (it is proved
     // over shared slices), in bounds for every state, length and content, and keeps no pointer.
@@ -265,6 +270,7 @@ pub fn exact(state: State, nodes: &[u32], cells: &[u32], key: u32, len: u32) -> 
 }
 
 /// The longest rule that covers the first `len` bits of a key.
+#[inline]
 pub fn longest(state: State, nodes: &[u32], cells: &[u32], key: u32, len: u32) -> Answer {
     // SAFETY: as for `exact`: two shared slices with their own lengths, read alone and in bounds.
     unsafe {
@@ -281,6 +287,7 @@ pub fn longest(state: State, nodes: &[u32], cells: &[u32], key: u32, len: u32) -
 }
 
 /// The shortest rule that covers the first `len` bits of a key.
+#[inline]
 pub fn shortest(state: State, nodes: &[u32], cells: &[u32], key: u32, len: u32) -> Answer {
     // SAFETY: as for `exact`: two shared slices with their own lengths, read alone and in bounds.
     unsafe {
