@@ -197,16 +197,15 @@ fn same(row: &Row, ours: &Played, theirs: &Played) -> Result<(), String> {
 pub fn time(plan: &Plan) -> Result<(), String> {
     for set in Set::ALL {
         for (count, pools) in SIZES {
+            eprintln!(
+                "speed: {}, {count} rules: {} rounds",
+                set.word(),
+                plan.rounds
+            );
             let mut ground = Ground::new(set, count, pools, plan.calls);
             ground.compare()?;
             let mut times = vec![[Vec::new(), Vec::new()]; ground.rows.len()];
             for round in 0..plan.rounds {
-                eprint!(
-                    "\rspeed: {} {count}, round {} of {} ",
-                    set.word(),
-                    round + 1,
-                    plan.rounds
-                );
                 let first = (round * plan.calls) as u32;
                 let ours_first = round % 2 == 0;
                 for ((row, work), times) in ground.rows.iter().zip(&mut times) {
@@ -226,7 +225,6 @@ pub fn time(plan: &Plan) -> Result<(), String> {
                     times[1].push(each(&theirs));
                 }
             }
-            eprintln!();
             for ((row, _), [ours, theirs]) in ground.rows.iter().zip(&mut times) {
                 let (ours, theirs) = (least_and_middle(ours), least_and_middle(theirs));
                 println!(

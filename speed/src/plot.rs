@@ -13,29 +13,36 @@ const LABELS: f64 = 150.0;
 const PANEL: f64 = 370.0;
 const GAP: f64 = 36.0;
 const EDGE: f64 = 24.0;
-const ROW: f64 = 25.0;
+const ROW: f64 = 29.0;
 const HEAD: f64 = 124.0;
 const FOOT: f64 = 40.0;
 
 /// Between two lines of the scale.
 const TICK: f64 = 0.5;
 
-/// Colours on a light ground and on a dark one; both pairs can be told apart by the colour-blind.
+/// Colours on a light ground, then what a dark one changes; both pairs can be told apart by the
+/// colour-blind. No CSS variables: not every viewer knows them.
 const STYLE: &str = "\
-  svg { --ground: #ffffff; --ink: #1f2328; --soft: #59636e; --line: #d9dee3; --batches: #0868ac; --random: #c2500a; }
-  @media (prefers-color-scheme: dark) {
-    svg { --ground: #0d1117; --ink: #e6edf3; --soft: #9aa4af; --line: #30363d; --batches: #62b3f5; --random: #f5a04a; }
-  }
-  text { font: 13px system-ui, 'Helvetica Neue', Arial, sans-serif; fill: var(--ink); }
+  text { font: 13px 'Helvetica Neue', Arial, sans-serif; fill: #1f2328; }
   .head { font-size: 17px; font-weight: 600; }
   .strong { font-weight: 600; }
-  .soft { fill: var(--soft); font-size: 12px; }
-  .ground { fill: var(--ground); }
-  .line { stroke: var(--line); stroke-width: 1; }
-  .one { stroke: var(--ink); stroke-width: 1.5; }
-  .batches { fill: var(--batches); stroke: var(--batches); }
-  .random { fill: var(--random); stroke: var(--random); }
-  .hollow { fill: var(--ground); stroke-width: 1.8; }
+  .soft { fill: #59636e; font-size: 12px; }
+  .ground { fill: #ffffff; }
+  .line { stroke: #d9dee3; stroke-width: 1; }
+  .one { stroke: #1f2328; stroke-width: 1.5; }
+  .batches { fill: #0868ac; stroke: #0868ac; }
+  .random { fill: #c2500a; stroke: #c2500a; }
+  .hollow { fill: #ffffff; stroke-width: 1.8; }
+  @media (prefers-color-scheme: dark) {
+    text { fill: #e6edf3; }
+    .soft { fill: #9aa4af; }
+    .ground, .hollow { fill: #0d1117; }
+    .line { stroke: #30363d; }
+    .one { stroke: #e6edf3; }
+    .batches { fill: #62b3f5; stroke: #62b3f5; }
+    .random { fill: #f5a04a; stroke: #f5a04a; }
+    .hollow { fill: #0d1117; }
+  }
 ";
 
 pub fn write(at: &str, measured: &[Measured]) -> Result<(), String> {
@@ -61,7 +68,7 @@ fn draw(measured: &[Measured]) -> String {
         panels.push(("Instructions", instructions));
     }
     let rows = Call::ALL.len() * Kind::ALL.len();
-    let width = 2.0 * EDGE + LABELS + panels.len() as f64 * (PANEL + GAP);
+    let width = 2.0 * EDGE + LABELS + panels.len() as f64 * (PANEL + GAP) - GAP;
     let height = HEAD + rows as f64 * ROW + FOOT;
     let most = measured
         .iter()
