@@ -1,8 +1,9 @@
 //! The benchmark: the proved map beside prefix-trie's own, on the same rules and the same queries.
 //!
-//! `tests/speed` runs it. `rules` and `rows` make the inputs, `sides` are the two maps, `timed` is what
-//! is timed, `measure` plays it, `results` reads what was measured, `page` and `plot` show it.
+//! `tests/speed` runs it. `rules` and `rows` make the inputs, `sides` are the two maps, `timed` is what is
+//! timed, `ground` plays it, `measure` measures, `results` reads that back, `page` and `plot` show it.
 
+mod ground;
 mod measure;
 mod page;
 mod plot;
@@ -23,23 +24,27 @@ const USAGE: &str = "usage: speed time | speed time-smoke | speed count | speed 
 /// A million calls a row and round.
 const TIMED: Plan = Plan {
     calls: 1_000_000,
+    piece: 20_000,
     rounds: 11,
 };
 
 /// Instructions hardly differ from one query to the next: fewer calls give the same numbers.
 const COUNTED: Plan = Plan {
     calls: 20_000,
+    piece: 20_000,
     rounds: 1,
 };
 
 /// Just enough to see that everything runs and agrees.
 const SMOKE: Plan = Plan {
     calls: 1_000,
+    piece: 500,
     rounds: 2,
 };
 
 const COUNTED_SMOKE: Plan = Plan {
     calls: 100,
+    piece: 100,
     rounds: 1,
 };
 

@@ -2,9 +2,7 @@
 
 use std::fs;
 
-use crate::measure::Row;
-use crate::rows::{Call, Kind};
-use crate::rules::{Set, SIZES};
+use crate::rows::{all, Row};
 
 /// A number of our map and the same of the crate's.
 #[derive(Clone, Copy, Debug, PartialEq)]
@@ -27,33 +25,13 @@ pub struct Measured {
     pub instructions: Option<Pair>,
 }
 
-/// Every row, in the order in which they are measured.
-fn rows() -> Vec<Row> {
-    let mut rows = Vec::new();
-    for set in Set::ALL {
-        for (rules, _) in SIZES {
-            for call in Call::ALL {
-                for kind in Kind::ALL {
-                    rows.push(Row {
-                        set,
-                        rules,
-                        call,
-                        kind,
-                    });
-                }
-            }
-        }
-    }
-    rows
-}
-
 /// Reads the times, a line a row as `speed time` prints them, and the counts if there are any: the row's
 /// words, then the instructions of a call on each side.
 pub fn read(times: &str, counts: Option<&str>) -> Result<Vec<Measured>, String> {
     let times = numbers(times, 4)?;
     let counts = counts.map(|at| numbers(at, 2)).transpose()?;
     let mut measured = Vec::new();
-    for (at, row) in rows().into_iter().enumerate() {
+    for (at, row) in all().into_iter().enumerate() {
         let time = &times[at];
         measured.push(Measured {
             row,
@@ -76,8 +54,8 @@ fn pair(numbers: &[f64]) -> Pair {
 fn numbers(at: &str, width: usize) -> Result<Vec<Vec<f64>>, String> {
     let text = fs::read_to_string(at).map_err(|e| format!("cannot read {at}: {e}"))?;
     let mut lines = text.lines();
-    let mut all = Vec::new();
-    for row in rows() {
+    let mut rows = Vec::new();
+    for row in all() {
         let words = row.words();
         let line = lines.next().ok_or_else(|| {
             format!("{at} ends before the row '{words}': measure again with tests/speed")
@@ -95,12 +73,12 @@ fn numbers(at: &str, width: usize) -> Result<Vec<Vec<f64>>, String> {
                     .filter(|n: &f64| n.is_finite() && *n > 0.0)
             })
             .collect();
-        all.push(given.filter(|given| given.len() == width).ok_or_else(|| {
+        rows.push(given.filter(|given| given.len() == width).ok_or_else(|| {
             format!("{at}: '{line}' doesn't end in {width} numbers above 0: measure again with tests/speed")
         })?);
     }
     match lines.next() {
         Some(line) => Err(format!("{at} goes on behind its last row with '{line}'")),
-        None => Ok(all),
+        None => Ok(rows),
     }
 }

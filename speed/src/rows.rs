@@ -1,6 +1,6 @@
 //! The rows of the table: which call, on which queries.
 
-use crate::rules::{shuffle, Prefix, Rules};
+use crate::rules::{shuffle, Prefix, Rules, Set, SIZES};
 use crate::seed::Seed;
 use crate::sides::Side;
 
@@ -65,6 +65,48 @@ impl Kind {
             Kind::Mixed => at % 2 == 0,
         }
     }
+}
+
+/// Which row a result belongs to.
+#[derive(Clone, Copy)]
+pub struct Row {
+    pub set: Set,
+    pub rules: usize,
+    pub call: Call,
+    pub kind: Kind,
+}
+
+impl Row {
+    /// The row's words, as results begin.
+    pub fn words(&self) -> String {
+        let Row {
+            set,
+            rules,
+            call,
+            kind,
+        } = self;
+        format!("{} {rules} {} {}", set.word(), call.word(), kind.word())
+    }
+}
+
+/// Every row, in the order in which they are measured.
+pub fn all() -> Vec<Row> {
+    let mut rows = Vec::new();
+    for set in Set::ALL {
+        for (rules, _) in SIZES {
+            for call in Call::ALL {
+                for kind in Kind::ALL {
+                    rows.push(Row {
+                        set,
+                        rules,
+                        call,
+                        kind,
+                    });
+                }
+            }
+        }
+    }
+    rows
 }
 
 /// Queries of a lookup. `map` holds the stored rules and says what is covered.

@@ -69,7 +69,7 @@ const BATCH: (u8, u8) = (16, 27);
 /// Lengths of random rules. Shorter ones would cover so much that hardly a query were a miss.
 const RANDOM: (u8, u8) = (12, 32);
 
-/// The rules of one map: those that it holds, and as many that it could, for misses and new rules.
+/// The rules of one map: those that it holds, and others that it could, for misses and new rules.
 pub struct Rules {
     pub set: Set,
     pub stored: Vec<Prefix>,
