@@ -24,7 +24,7 @@ const USAGE: &str = "usage: speed time | speed time-smoke | speed count | speed 
 /// A million calls a row and round.
 const TIMED: Plan = Plan {
     calls: 1_000_000,
-    piece: 20_000,
+    piece: 5_000,
     rounds: 11,
 };
 
