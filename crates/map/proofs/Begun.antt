@@ -11,7 +11,7 @@ use Rattle.entry.specs.First.{lookupFirst, editShaped}
 use Rattle.entry.specs.Fresh.{emptyNodes, zeros, poolAs}
 use Rattle.entry.proofs.Ready.{LookupReady, lookup-ready}
 use Rattle.walk.specs.declared.Sight.{Sight}
-use Rattle.walk.proofs.Sights.{Seen}
+use Rattle.walk.specs.Sights.{Seen}
 use Rattle.map.specs.declared.State.{State}
 use Rattle.map.specs.declared.Answer.{Answer}
 use Rattle.map.specs.declared.Answer.the-variants.{Started, WrongSlice}

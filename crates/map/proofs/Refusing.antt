@@ -18,8 +18,9 @@ use Rattle.walk.specs.declared.Sight.{Sight}
 use Rattle.walk.specs.declared.Sight.the-variants.{Unsound, Missing, Rule}
 use Rattle.walk.specs.Steps.{dataWithin}
 use Rattle.walk.specs.Lookups.{exactSight, longestSight, shortestSight}
+use Rattle.walk.specs.Sights.{Seen}
 use Rattle.walk.proofs.Visits.{visited-seven}
-use Rattle.walk.proofs.Sights.{Seen, exact-seen, longest-seen, shortest-seen}
+use Rattle.walk.proofs.Sights.{exact-seen, longest-seen, shortest-seen}
 use Rattle.map.specs.declared.State.{State}
 use Rattle.map.specs.declared.Answer.{Answer}
 use Rattle.map.specs.declared.Answer.the-variants.{Started, Added, Replaced, Removed, Found, TooLong, Missing as Absent, WrongSlice, NoRoom, Broken}

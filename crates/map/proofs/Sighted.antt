@@ -16,9 +16,9 @@ use Rattle.store.specs.Words.{cellAt}
 use Rattle.walk.specs.declared.Sight.{Sight}
 use Rattle.walk.specs.declared.Sight.the-variants.{Unsound, Missing, Rule}
 use Rattle.walk.specs.Steps.{dataWithin}
+use Rattle.walk.specs.Sights.{Told, Seen}
 use Rattle.walk.proofs.Within.{cell-below}
 use Rattle.walk.proofs.Visits.{visited-le}
-use Rattle.walk.proofs.Sights.{Told, Seen}
 use Rattle.map.specs.declared.Answer.the-variants.{Found, Missing as Absent, Broken}
 use Rattle.map.specs.Lookups.{answerOf}
 

@@ -7,7 +7,7 @@ ghost use mathlib.Core.Path.{_≡_};
 ghost use Prim.Native.Nat.{_≤_};
 ghost use lib.ListN.{length};
 ghost use Rattle.prefix.specs.Prefix.{width};
-ghost use Rattle.walk.proofs.Sights.{Seen};
+ghost use Rattle.walk.specs.Sights.{Seen};
 ghost use Rattle.map.specs.Lookups.{answerOf, exactOf, longestOf, shortestOf};
 
 // The answer of a sight. The rule's block of cells is read for its value alone.

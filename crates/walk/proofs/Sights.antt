@@ -2,7 +2,7 @@
 use mathlib.Core.Path.{_≡_, refl, ap, _∙_, sym}
 use mathlib.Core.Bool.{Bool, true, false, cond}
 use mathlib.Core.List.{List}
-use Prim.Native.Nat.{ℕ, _+_, _*_, _%_, _^_, _≤_, _<_}
+use Prim.Native.Nat.{ℕ, _+_, _*_, _%_, _≤_, _<_}
 use native.Mathlib.Omega.{arith}
 use borrow.Author.Tests.{ltb-true}
 use lib.Dec.{ltb}
@@ -22,24 +22,11 @@ use Rattle.walk.specs.declared.Sight.{Sight}
 use Rattle.walk.specs.declared.Sight.the-variants.{Unsound, Missing, Rule}
 use Rattle.walk.specs.Steps.{soundOf, stepOf}
 use Rattle.walk.specs.Lookups.{visited, ruleIn, better, counted, longestStep, longestFrom, longestSight, shortestStep, shortestFrom, shortestSight, exactIn, exactStep, exactFrom, exactSight}
+use Rattle.walk.specs.Sights.{Seen}
 use Rattle.walk.proofs.Whole.{sound-31}
 use Rattle.walk.proofs.Kept.{Kept, longest-kept, shortest-kept}
 use Rattle.walk.proofs.Turns.{Standing, at-root}
 use Rattle.walk.proofs.Visits.{along, visited-le}
-
--- a rule of the query's key that a node holds: data bit b of its bitmap, of length m, told with n nodes visited
-pub record Told (key len bitmap b m n : ℕ) : Type 0 where
-  pub set : has bitmap b ≡ true
-  pub small : bitmap < 2 ^ 31
-  pub there : b ≡ dataBit key m
-  pub upto : m ≤ len
-  pub visits : n ≤ visited len
-
--- what a sight of a query says
-abbrev pub Seen : ℕ → ℕ → Sight → Type 0
-Seen key len Unsound = Unit {0}
-Seen key len (Missing n) = n ≤ visited len
-Seen key len (Rule cells bitmap b m n) = Told key len bitmap b m n
 
 module _ (key len : ℕ) where
   -- a rule that a node which is whole keeps

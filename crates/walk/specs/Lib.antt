@@ -1,3 +1,4 @@
 pub mod Steps
 pub mod Lookups
+pub mod Sights
 pub mod Trails
