@@ -1,5 +1,6 @@
 pub mod Section
 pub mod Moves
+pub mod Lengths
 pub mod Shape
 pub mod Settled
 pub mod Spare

@@ -2,7 +2,6 @@
 use mathlib.Core.Path.{_≡_, refl, _∙_}
 use mathlib.Core.List.{List}
 use Prim.Native.Nat.{ℕ, zero, suc, _+_, _-_}
-use lib.Dec.{eqb}
 use lib.ListN.{length}
 use Rattle.bits.specs.Bits.{count, setBelow, withBit}
 use Rattle.tiers.specs.Tiers.{stride, dataTop, childTop}
@@ -12,8 +11,9 @@ use Rattle.node.specs.Nodes.{emptyNode}
 use Rattle.blocks.specs.declared.Pool.{Pool}
 use Rattle.blocks.specs.declared.Block.{Block}
 use Rattle.blocks.specs.Blocks.{takeOf}
-use Rattle.blocks.specs.Growth.{tierIn, moveOf, growOf, staysOf}
-use Rattle.blocks.proofs.Moves.{either, take-length, give-length}
+use Rattle.blocks.specs.Growth.{growOf, staysOf}
+use Rattle.blocks.proofs.Moves.{take-length}
+use Rattle.blocks.proofs.Lengths.{grow-length}
 use Rattle.store.specs.declared.Cell.{Cell}
 use Rattle.store.specs.Words.{saveNode}
 use Rattle.store.specs.Moves.{widenNodes}
@@ -21,23 +21,6 @@ use Rattle.store.proofs.Items.{node-length}
 use Rattle.store.proofs.Changes.{widen-cells-length, widen-nodes-length}
 use Rattle.edits.specs.Nodes.{withChildren}
 use Rattle.edits.specs.Adding.{keepOf, chainOf, makeOf}
-
-module _ (p : Pool) (top : ℕ) (l : List ℕ) (old : ℕ) where
-  -- contents that move: the free list keeps its length
-  pub move-length : (a b : ℕ) → length (moveOf p top l old a b .1) ≡ length l
-  unfolding moveOf
-  move-length a b = give-length (takeOf p top l b .0 .pool) top (takeOf p top l b .1) a old ∙ take-length p top l b
-
-  -- as long as the list before
-  abbrev Same : Block × List ℕ → Type 0
-  Same x = length (x .1) ≡ length l
-
-  -- growth: the free list keeps its length
-  pub grow-length : (c : ℕ) → length (growOf p top l old c .1) ≡ length l
-  unfolding growOf
-  grow-length c =
-      either Same (eqb c 0) _ _ (λ e. take-length p top l 0)
-      (λ e. either Same (eqb (tierIn top c) (tierIn top (c + 1))) _ _ (λ f. refl) (λ f. move-length (tierIn top c) (tierIn top (c + 1))))
 
 module _ (p : Pool) (nodes cells f : List ℕ) (at : ℕ) (x : MultiBitNode) (b : ℕ) (v : Cell) where
   -- a rule is kept: the nodes keep their length

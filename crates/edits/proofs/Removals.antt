@@ -3,33 +3,18 @@
 use mathlib.Core.Path.{_≡_, refl, _∙_}
 use mathlib.Core.Bool.{Bool, true, false}
 use mathlib.Core.List.{List}
-use Prim.Native.Nat.{ℕ, zero, suc, _-_, _*_}
-use lib.Dec.{leb, eqb}
+use Prim.Native.Nat.{ℕ, zero, suc, _*_}
 use lib.ListN.{length, getD}
 use Rattle.tiers.specs.Tiers.{stride, dataTop, childTop}
 use Rattle.node.specs.declared.MultiBitNode.{MultiBitNode}
 use Rattle.node.specs.Nodes.{emptyNode}
 use Rattle.bits.specs.Bits.{count}
 use Rattle.blocks.specs.declared.Pool.{Pool}
-use Rattle.blocks.specs.declared.Block.{Block}
-use Rattle.blocks.specs.Blocks.{takeOf}
-use Rattle.blocks.specs.Growth.{tierIn, moveOf, shrinkOf}
-use Rattle.blocks.proofs.Moves.{either, take-length, give-length}
+use Rattle.blocks.proofs.Lengths.{shrink-length}
 use Rattle.blocks.proofs.Shape.{InShape, shrink-shape}
 use Rattle.store.proofs.Items.{node-length}
 use Rattle.store.proofs.Changes.{narrow-cells-length, narrow-nodes-length}
 use Rattle.edits.specs.Removing.{lastChild, dropOf, upOf, pruneAskOf, pruneOf}
-
--- a shrinkage keeps the length of the free list
-pub shrink-length : (p : Pool) (top : ℕ) (l : List ℕ) (old c : ℕ) → length (shrinkOf p top l old c .1) ≡ length l
-unfolding shrinkOf moveOf
-shrink-length p top l old c =
-    either Kept (leb c 1) _ _ (λ e. give-length p top l 0 old)
-    (λ e. either Kept (eqb (tierIn top c) (tierIn top (c - 1))) _ _ (λ f. refl)
-    (λ f. give-length (takeOf p top l (tierIn top (c - 1)) .0 .pool) top (takeOf p top l (tierIn top (c - 1)) .1) (tierIn top c) old ∙ take-length p top l (tierIn top (c - 1))))
-  where
-    Kept : Block × List ℕ → Type 0
-    Kept x = length (x .1) ≡ length l
 
 module _ (p : Pool) (nodes cells f : List ℕ) (at : ℕ) (x : MultiBitNode) (b : ℕ) where
   -- a rule that goes keeps the lengths of nodes, cells and free list
