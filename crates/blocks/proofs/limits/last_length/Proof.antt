@@ -1,9 +1,9 @@
--- `blocks::last_length` meets its contract: a kind that the test names divides by its own number. Assumes nothing.
+-- `blocks::limits::last_length` meets its contract: a kind that the test names divides by its own number. Assumes nothing.
 use mathlib.Core.Path.{sym, ap}
 use Prim.Native.Nat.{ℕ, _/_}
 use borrow.Author.Needs.{needs}
-use Rattle.blocks.proofs.last_length.Statement.{statement}
-use Rattle.blocks.proofs.last_length.Tie as tie
+use Rattle.blocks.proofs.limits.last_length.Statement.{statement}
+use Rattle.blocks.proofs.limits.last_length.Tie as tie
 
 returns : tie.Need-returns
 returns c = ap (λ (k : ℕ). (c .before .args .size) / k) (sym (c .if1 .taken))

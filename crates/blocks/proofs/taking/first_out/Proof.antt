@@ -1,10 +1,10 @@
--- `blocks::first_out` meets its contract: `read` at the last entry. Assumes nothing.
+-- `blocks::taking::first_out` meets its contract: `read` at the last entry. Assumes nothing.
 use mathlib.Core.Path.{ap, _∙_}
 use Prim.Native.Nat.{ℕ, _+_, _-_}
 use lib.ListN.{getD}
 use borrow.Author.Needs.{needs}
-use Rattle.blocks.proofs.first_out.Statement.{statement}
-use Rattle.blocks.proofs.first_out.Tie as tie
+use Rattle.blocks.proofs.taking.first_out.Statement.{statement}
+use Rattle.blocks.proofs.taking.first_out.Tie as tie
 
 wide-requires : tie.Need-wide-requires
 wide-requires c κs = search needs

@@ -1,9 +1,9 @@
--- `blocks::over` meets its contract: the product fits, and the test is that of the contract. Assumes nothing.
+-- `blocks::limits::over` meets its contract: the product fits, and the test is that of the contract. Assumes nothing.
 use native.Mathlib.Omega.{arith}
 use Rattle.blocks.proofs.Ways.{product}
 use borrow.Author.Needs.{needs}
-use Rattle.blocks.proofs.over.Statement.{statement}
-use Rattle.blocks.proofs.over.Tie as tie
+use Rattle.blocks.proofs.limits.over.Statement.{statement}
+use Rattle.blocks.proofs.limits.over.Tie as tie
 
 wide-requires : tie.Need-wide-requires
 wide-requires c κs = search needs

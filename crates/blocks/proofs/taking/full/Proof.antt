@@ -1,9 +1,9 @@
--- `blocks::full` meets its contract: the product fits, and the test is that of the contract. Assumes nothing.
+-- `blocks::taking::full` meets its contract: the product fits, and the test is that of the contract. Assumes nothing.
 use native.Mathlib.Omega.{arith}
 use Rattle.blocks.proofs.Ways.{product}
 use borrow.Author.Needs.{needs}
-use Rattle.blocks.proofs.full.Statement.{statement}
-use Rattle.blocks.proofs.full.Tie as tie
+use Rattle.blocks.proofs.taking.full.Statement.{statement}
+use Rattle.blocks.proofs.taking.full.Tie as tie
 
 wide-requires : tie.Need-wide-requires
 wide-requires c κs = search needs

@@ -1,10 +1,10 @@
--- `blocks::take_out` meets its contract: `put` at the last entry. Assumes nothing.
+-- `blocks::taking::take_out` meets its contract: `put` at the last entry. Assumes nothing.
 use mathlib.Core.Path.{ap, _∙_}
 use Prim.Native.Nat.{ℕ, _+_, _-_}
 use lib.ListN.{set}
 use borrow.Author.Needs.{needs}
-use Rattle.blocks.proofs.take_out.Statement.{statement}
-use Rattle.blocks.proofs.take_out.Tie as tie
+use Rattle.blocks.proofs.taking.take_out.Statement.{statement}
+use Rattle.blocks.proofs.taking.take_out.Tie as tie
 
 wide-requires : tie.Need-wide-requires
 wide-requires c κs = search needs

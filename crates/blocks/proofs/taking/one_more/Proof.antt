@@ -1,10 +1,10 @@
--- `blocks::one_more` meets its contract: a section is full where one block more would not fit the pool. Assumes nothing.
+-- `blocks::taking::one_more` meets its contract: a section is full where one block more would not fit the pool. Assumes nothing.
 use native.Mathlib.Omega.{arith}
 use native.Mathlib.Nat.{div-le-self}
 use Rattle.blocks.proofs.Ways.{is-full, has-room}
 use borrow.Author.Needs.{needs}
-use Rattle.blocks.proofs.one_more.Statement.{statement}
-use Rattle.blocks.proofs.one_more.Tie as tie
+use Rattle.blocks.proofs.taking.one_more.Statement.{statement}
+use Rattle.blocks.proofs.taking.one_more.Tie as tie
 
 full-requires : tie.Need-full-requires
 full-requires c κs = search needs

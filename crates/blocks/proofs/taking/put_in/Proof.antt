@@ -1,10 +1,10 @@
--- `blocks::put_in` meets its contract: `put` behind the last entry. Assumes nothing.
+-- `blocks::taking::put_in` meets its contract: `put` behind the last entry. Assumes nothing.
 use mathlib.Core.Path.{ap, _∙_}
 use Prim.Native.Nat.{ℕ, _+_}
 use lib.ListN.{set}
 use borrow.Author.Needs.{needs}
-use Rattle.blocks.proofs.put_in.Statement.{statement}
-use Rattle.blocks.proofs.put_in.Tie as tie
+use Rattle.blocks.proofs.taking.put_in.Statement.{statement}
+use Rattle.blocks.proofs.taking.put_in.Tie as tie
 
 wide-requires : tie.Need-wide-requires
 wide-requires c κs = search needs
