@@ -4,3 +4,4 @@ pub mod Extending
 pub mod Prefixes
 pub mod Children
 pub mod Covering
+pub mod Rest

@@ -17,6 +17,10 @@ levelIn len = len % stride
 unfoldable pub window : ℕ → ℕ → ℕ → ℕ
 window key d w = key * 2 ^ stride / 2 ^ (width + stride - d - w) % 2 ^ w
 
+-- what is left of a key after the depth d: its first d bits fall off at the top, and zeros follow
+unfoldable pub restAt : ℕ → ℕ → ℕ
+restAt key d = key * 2 ^ d % 2 ^ width
+
 -- the data bit of a prefix: 2 ^ level - 1, plus the first `level` key bits after the depth
 unfoldable pub dataBit : ℕ → ℕ → ℕ
 dataBit key len = (2 ^ levelIn len - 1) + first len key % 2 ^ levelIn len

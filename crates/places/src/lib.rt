@@ -5,7 +5,7 @@ ghost use mathlib.Core.Path.{_≡_};
 ghost use Prim.Native.Nat.{_<_, _≤_, _+_};
 ghost use Rattle.prefix.specs.Prefix.{width};
 ghost use Rattle.tiers.specs.Tiers.{stride};
-ghost use Rattle.places.specs.Places.{dataBit, childBit, window, levelOf};
+ghost use Rattle.places.specs.Places.{dataBit, childBit, window, restAt, levelOf};
 
 // The data bit of a prefix in the node that its length lives in. At depth 30 the window runs past the key: it is shifted left by 3.
 pub fn data_bit(key: u32, len: u32) -> u32
@@ -42,6 +42,32 @@ pub fn row_place(depth: u32, key: u32) -> u32
     } else {
         (key << (depth + ChildPool::STRIDE - 33)) & 15
     }
+}
+
+// A walk carries what is left of the key below its depth, `rest`: then no window needs a shift by the depth, nor a case at depth 30.
+
+// The same child as child_bit's: the top five bits of what is left of the key.
+pub fn rest_child(rest: u32, depth: u32, key: u32) -> u32
+    requires { ⌜ (depth + stride ≤ width) × (rest ≡ restAt key depth) ⌝ }
+    ensures { λ r. ⌜ r ≡ childBit depth key ⌝ }
+{
+    rest >> 27
+}
+
+// The same place as row_place's: the top four bits.
+pub fn rest_place(rest: u32, depth: u32, key: u32) -> u32
+    requires { ⌜ (depth ≤ 30) × (rest ≡ restAt key depth) ⌝ }
+    ensures { λ r. ⌜ r ≡ window key depth 4 ⌝ }
+{
+    rest >> 28
+}
+
+// What is left one node further down.
+pub fn rest_below(rest: u32, depth: u32, key: u32) -> u32
+    requires { ⌜ rest ≡ restAt key depth ⌝ }
+    ensures { λ r. ⌜ r ≡ restAt key (depth + stride) ⌝ }
+{
+    rest << ChildPool::STRIDE
 }
 
 // The level of a data bit in its node: level j has the bits from 2^j - 1 on.
