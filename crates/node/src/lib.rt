@@ -7,6 +7,7 @@ ghost use mathlib.Core.Path.{_≡_};
 ghost use Prim.Native.Nat.{_<_};
 ghost use lib.Bits.{bitAnd};
 ghost use Rattle.bits.specs.Bits.{has, count, setBelow};
+ghost use Rattle.places.specs.Places.{restAt};
 ghost use Rattle.node.specs.Nodes.{emptyNode, setData, unsetData, setChild, unsetChild};
 ghost use Rattle.node.specs.Masks.{InTree, dataLpm, dataCover, childCover};
 ghost use Rattle.node.specs.Matches.{longestIn, shortestIn};
@@ -30,6 +31,19 @@ pub fn data_lpm_mask(depth: u32, key: u32, len: u32) -> u32
     ensures { λ r. ⌜ r ≡ dataLpm depth key len ⌝ }
 {
     let place = places::row_place(depth, key);
+    if len - depth < 4 {
+        patterns::path_bits(len - depth, place)
+    } else {
+        patterns::path_bits(4, place)
+    }
+}
+
+// The same as data_lpm_mask, from what is left of the key below the depth.
+pub fn rest_lpm_mask(rest: u32, depth: u32, key: u32, len: u32) -> u32
+    requires { ⌜ InTree depth len × (rest ≡ restAt key depth) ⌝ }
+    ensures { λ r. ⌜ r ≡ dataLpm depth key len ⌝ }
+{
+    let place = places::rest_place(rest, depth, key);
     if len - depth < 4 {
         patterns::path_bits(len - depth, place)
     } else {
@@ -178,6 +192,30 @@ impl MultiBitNode {
         ensures { λ r. ⌜ r ≡ shortestIn (self .«data_bitmap») depth key len ⌝ }
     {
         let present = self.data_bitmap & data_lpm_mask(depth, key, len);
+        if present == 0 {
+            return Found::Nothing;
+        }
+        Found::At(bits::lowest_bit(present))
+    }
+
+    // The same as data_lpm, from what is left of the key below the depth.
+    pub fn rest_lpm(self, rest: u32, depth: u32, key: u32, len: u32) -> Found
+        requires { ⌜ InTree depth len × (rest ≡ restAt key depth) ⌝ }
+        ensures { λ r. ⌜ r ≡ longestIn (self .«data_bitmap») depth key len ⌝ }
+    {
+        let present = self.data_bitmap & rest_lpm_mask(rest, depth, key, len);
+        if present == 0 {
+            return Found::Nothing;
+        }
+        Found::At(bits::highest_bit(present))
+    }
+
+    // The same as data_spm, from what is left of the key below the depth.
+    pub fn rest_spm(self, rest: u32, depth: u32, key: u32, len: u32) -> Found
+        requires { ⌜ InTree depth len × (rest ≡ restAt key depth) ⌝ }
+        ensures { λ r. ⌜ r ≡ shortestIn (self .«data_bitmap») depth key len ⌝ }
+    {
+        let present = self.data_bitmap & rest_lpm_mask(rest, depth, key, len);
         if present == 0 {
             return Found::Nothing;
         }
