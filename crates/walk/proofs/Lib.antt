@@ -2,6 +2,7 @@ pub mod Whole
 pub mod Within
 pub mod Steps
 pub mod Kept
+pub mod Halves
 pub mod LookupWays
 pub mod Turns
 pub mod Visits

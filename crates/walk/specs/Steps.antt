@@ -21,6 +21,13 @@ soundOf n =
     && agree (eqb (n .«child_bitmap») 0) (eqb (n .«children_idx» .0) empty)
     && ltb (n .«data_bitmap») 0x8000_0000
 
+-- the two halves of that test: the rules' half, with bit 31, and the children's
+unfoldable pub dataWhole : MultiBitNode → Bool
+dataWhole n = agree (eqb (n .«data_bitmap») 0) (eqb (n .«data_idx» .0) empty) && ltb (n .«data_bitmap») 0x8000_0000
+
+unfoldable pub childrenWhole : MultiBitNode → Bool
+childrenWhole n = agree (eqb (n .«child_bitmap») 0) (eqb (n .«children_idx» .0) empty)
+
 -- a block of n items that starts at s lies wholly below the mark; a block is its whole spacing
 unfoldable pub childrenWithin : ℕ → ℕ → ℕ → Bool
 childrenWithin lim n s = leb (s + spacingOf childSpacings (tierOf childSpacings n)) lim
@@ -38,3 +45,11 @@ stepOf lim key len d x =
     Broken)
     End)
     End
+
+-- the same step, with number 5 too where the children's half of the test fails
+unfoldable pub wholeStepOf : ℕ → ℕ → ℕ → ℕ → MultiBitNode → Step
+wholeStepOf lim key len d x = cond (childrenWhole x) (stepOf lim key len d x) Broken
+
+-- the end of the path, with number 5 where that half fails
+unfoldable pub wholeEnd : MultiBitNode → Step
+wholeEnd x = cond (childrenWhole x) End Broken

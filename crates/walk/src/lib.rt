@@ -13,9 +13,10 @@ ghost use Prim.Native.Nat.{_+_, _*_, _≤_};
 ghost use lib.Dec.{eqb};
 ghost use lib.ListN.{length};
 ghost use Rattle.bits.specs.Bits.{count};
+ghost use Rattle.places.specs.Places.{restAt};
 ghost use Rattle.node.specs.Masks.{InTree};
 ghost use Rattle.store.specs.Words.{nodeAt};
-ghost use Rattle.walk.specs.Steps.{agree, soundOf, childrenWithin, dataWithin, stepOf};
+ghost use Rattle.walk.specs.Steps.{agree, soundOf, dataWhole, childrenWhole, childrenWithin, dataWithin, stepOf, wholeStepOf, wholeEnd};
 
 // Bit 31, which no data bitmap has.
 const BIT_31: u32 = 0x8000_0000;
@@ -68,6 +69,28 @@ pub fn sound(x: MultiBitNode) -> bool
     false
 }
 
+// The rules' half of that test. A lookup asks for the rules at once, so its branch on the bitmap is the same one.
+fn data_whole(x: MultiBitNode) -> bool
+    ensures { λ r. ⌜ r ≡ dataWhole x ⌝ }
+{
+    let cells = x.data_idx;
+    if x.data_bitmap == 0 {
+        return cells.is_empty();
+    }
+    if cells.is_empty() {
+        return false;
+    }
+    x.data_bitmap < BIT_31
+}
+
+// The children's half.
+fn children_whole(x: MultiBitNode) -> bool
+    ensures { λ r. ⌜ r ≡ childrenWhole x ⌝ }
+{
+    let children = x.children_idx;
+    paired(x.child_bitmap, children.is_empty())
+}
+
 // Does the block of a child bitmap that starts here lie wholly below the mark? Children are counted only near the mark.
 pub fn children_within(lim: u32, bitmap: u32, start: u32) -> bool
     ensures { λ r. ⌜ r ≡ childrenWithin lim (count bitmap) start ⌝ }
@@ -115,4 +138,34 @@ pub fn next_step(lim: u32, key: u32, len: u32, depth: u32, x: MultiBitNode) -> S
         return Step::Broken;
     }
     Step::End
+}
+
+// The end of the path at the node x, if the children's half of its test holds.
+fn whole_end(x: MultiBitNode) -> Step
+    ensures { λ r. ⌜ r ≡ wholeEnd x ⌝ }
+{
+    if children_whole(x) {
+        return Step::End;
+    }
+    Step::Broken
+}
+
+// A lookup's step from the node x: next_step and the children's half of the test in one, over what is left of the key.
+// Down it tests no half: a child's bit is set, and a block that lies below the mark doesn't start at the empty index.
+fn whole_step(lim: u32, key: u32, len: u32, depth: u32, rest: u32, x: MultiBitNode) -> Step
+    requires { ⌜ InTree depth len × (rest ≡ restAt key depth) ⌝ }
+    ensures { λ r. ⌜ r ≡ wholeStepOf lim key len depth x ⌝ }
+{
+    if len - depth < ChildPool::STRIDE {
+        return whole_end(x);
+    }
+    let bit = places::rest_child(rest, depth, key);
+    if x.has_child_bit(bit) {
+        let start = x.children_idx.0;
+        if children_within(lim, x.child_bitmap, start) {
+            return Step::Down(start + x.child_slot(bit));
+        }
+        return Step::Broken;
+    }
+    whole_end(x)
 }

@@ -1,4 +1,5 @@
 // The three lookups, each one loop over the nodes of the query's path: what it sees is said in specs/Lookups.antt.
+// A walk carries its depth and what is left of the key below it, `rest`.
 use crate::Sight;
 use crate::Step;
 use node::Found;
@@ -9,6 +10,7 @@ ghost use mathlib.Core.Path.{_≡_};
 ghost use Prim.Native.Nat.{_*_, _≤_};
 ghost use lib.ListN.{length};
 ghost use Rattle.prefix.specs.Prefix.{width};
+ghost use Rattle.places.specs.Places.{restAt};
 ghost use Rattle.node.specs.Masks.{InTree};
 ghost use Rattle.node.specs.Matches.{longestIn, shortestIn};
 ghost use Rattle.walk.specs.Lookups.{visited, Bounded, bestSight, better, counted, exactIn, longestSight, shortestSight, exactSight};
@@ -30,33 +32,33 @@ fn visited_at(depth: u32) -> u32
 }
 
 // The longest rule of a node that covers the query; a node with no rules is passed by.
-fn longest_in(x: MultiBitNode, depth: u32, key: u32, len: u32) -> Found
-    requires { ⌜ InTree depth len ⌝ }
+fn longest_in(x: MultiBitNode, depth: u32, rest: u32, key: u32, len: u32) -> Found
+    requires { ⌜ InTree depth len × (rest ≡ restAt key depth) ⌝ }
     ensures { λ r. ⌜ r ≡ longestIn (x .«data_bitmap») depth key len ⌝ }
 {
     if x.data_bitmap == 0 {
         return Found::Nothing;
     }
-    x.data_lpm(depth, key, len)
+    x.rest_lpm(rest, depth, key, len)
 }
 
 // The shortest rule of a node that covers the query; a node with no rules is passed by.
-fn shortest_in(x: MultiBitNode, depth: u32, key: u32, len: u32) -> Found
-    requires { ⌜ InTree depth len ⌝ }
+fn shortest_in(x: MultiBitNode, depth: u32, rest: u32, key: u32, len: u32) -> Found
+    requires { ⌜ InTree depth len × (rest ≡ restAt key depth) ⌝ }
     ensures { λ r. ⌜ r ≡ shortestIn (x .«data_bitmap») depth key len ⌝ }
 {
     if x.data_bitmap == 0 {
         return Found::Nothing;
     }
-    x.data_spm(depth, key, len)
+    x.rest_spm(rest, depth, key, len)
 }
 
 // The best rule after the node x: its own, if it has one that covers the query.
-fn better_in(best: Best, x: MultiBitNode, depth: u32, key: u32, len: u32) -> Best
-    requires { ⌜ InTree depth len × Bounded best ⌝ }
+fn better_in(best: Best, x: MultiBitNode, depth: u32, rest: u32, key: u32, len: u32) -> Best
+    requires { ⌜ InTree depth len × (rest ≡ restAt key depth) × Bounded best ⌝ }
     ensures { λ r. ⌜ (bestSight r ≡ better (longestIn (x .«data_bitmap») depth key len) x depth (bestSight best)) × Bounded r ⌝ }
 {
-    match longest_in(x, depth, key, len) {
+    match longest_in(x, depth, rest, key, len) {
         Found::At(bit) => {
             let cells = x.data_idx;
             Best {
@@ -99,6 +101,7 @@ pub fn longest_sight(nodes: &[u32], lim: u32, key: u32, len: u32) -> Sight
     }
     let mut at: u32 = 0;
     let mut depth: u32 = 0;
+    let mut rest = key;
     let mut best = Best {
         cells: CellAt(0),
         bitmap: 0,
@@ -107,13 +110,14 @@ pub fn longest_sight(nodes: &[u32], lim: u32, key: u32, len: u32) -> Sight
     };
     loop {
         let x = crate::load(nodes, at);
-        if !crate::sound(x) {
+        if !crate::data_whole(x) {
             return Sight::Unsound;
         }
-        best = better_in(best, x, depth, key, len);
-        match crate::next_step(lim, key, len, depth, x) {
+        best = better_in(best, x, depth, rest, key, len);
+        match crate::whole_step(lim, key, len, depth, rest, x) {
             Step::Down(next) => {
                 at = next;
+                rest = places::rest_below(rest, depth, key);
                 depth += ChildPool::STRIDE;
             }
             Step::End => return told(best, depth),
@@ -132,13 +136,17 @@ pub fn shortest_sight(nodes: &[u32], lim: u32, key: u32, len: u32) -> Sight
     }
     let mut at: u32 = 0;
     let mut depth: u32 = 0;
+    let mut rest = key;
     loop {
         let x = crate::load(nodes, at);
-        if !crate::sound(x) {
+        if !crate::data_whole(x) {
             return Sight::Unsound;
         }
-        match shortest_in(x, depth, key, len) {
+        match shortest_in(x, depth, rest, key, len) {
             Found::At(bit) => {
+                if !crate::children_whole(x) {
+                    return Sight::Unsound;
+                }
                 let cells = x.data_idx;
                 return Sight::Rule(
                     cells,
@@ -148,9 +156,10 @@ pub fn shortest_sight(nodes: &[u32], lim: u32, key: u32, len: u32) -> Sight
                     visited_at(depth),
                 );
             }
-            Found::Nothing => match crate::next_step(lim, key, len, depth, x) {
+            Found::Nothing => match crate::whole_step(lim, key, len, depth, rest, x) {
                 Step::Down(next) => {
                     at = next;
+                    rest = places::rest_below(rest, depth, key);
                     depth += ChildPool::STRIDE;
                 }
                 Step::End => return Sight::Missing(visited_at(depth)),
@@ -187,14 +196,16 @@ pub fn exact_sight(nodes: &[u32], lim: u32, key: u32, len: u32) -> Sight
     }
     let mut at: u32 = 0;
     let mut depth: u32 = 0;
+    let mut rest = key;
     loop {
         let x = crate::load(nodes, at);
-        if !crate::sound(x) {
+        if !crate::data_whole(x) {
             return Sight::Unsound;
         }
-        match crate::next_step(lim, key, len, depth, x) {
+        match crate::whole_step(lim, key, len, depth, rest, x) {
             Step::Down(next) => {
                 at = next;
+                rest = places::rest_below(rest, depth, key);
                 depth += ChildPool::STRIDE;
             }
             Step::End => return exact_in(x, depth, key, len),

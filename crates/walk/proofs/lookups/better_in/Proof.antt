@@ -27,7 +27,7 @@ returns c =
 
 returns-2 : tie.Need-returns-2
 returns-2 c =
-    (better-none (c .before .before .before .args .x) (c .before .before .before .args .depth) (longestIn (c .before .before .before .args .x .«data_bitmap») (c .before .before .before .args .depth) (c .before .before .before .args .key) (c .before .before .before .args .len)) (bestSight (c .before .before .before .args .best)) (sym (c .before .before .longest-in .ensures) ∙ search), c .before .before .before .pre .1)
+    (better-none (c .before .before .before .args .x) (c .before .before .before .args .depth) (longestIn (c .before .before .before .args .x .«data_bitmap») (c .before .before .before .args .depth) (c .before .before .before .args .key) (c .before .before .before .args .len)) (bestSight (c .before .before .before .args .best)) (sym (c .before .before .longest-in .ensures) ∙ search), c .before .before .before .pre .2)
 
 pub better-in-spec : {M : Type 1} → statement M
 better-in-spec =

@@ -8,13 +8,13 @@ use Rattle.walk.proofs.lookups.longest_in.Statement.{statement}
 use Rattle.walk.proofs.lookups.longest_in.Tie as tie
 
 returns : tie.Need-returns
-returns c = sym (ap (λ (b : ℕ). longestIn b (c .before .before .args .depth) (c .before .before .args .key) (c .before .before .args .len)) (c .if1 .taken) ∙ longest-zero (c .before .before .args .depth) (c .before .before .args .key) (c .before .before .args .len) (c .before .before .pre .from))
+returns c = sym (ap (λ (b : ℕ). longestIn b (c .before .before .args .depth) (c .before .before .args .key) (c .before .before .args .len)) (c .if1 .taken) ∙ longest-zero (c .before .before .args .depth) (c .before .before .args .key) (c .before .before .args .len) (c .before .before .pre .0 .from))
 
-data-lpm-requires : tie.Need-data-lpm-requires
-data-lpm-requires c κs = (c .before .before .pre)
+rest-lpm-requires : tie.Need-rest-lpm-requires
+rest-lpm-requires c κs = (c .before .before .pre)
 
 returns-2 : tie.Need-returns-2
 returns-2 c = search needs
 
 pub longest-in-spec : {M : Type 1} → statement M
-longest-in-spec = tie.close (tie.spec returns data-lpm-requires returns-2)
+longest-in-spec = tie.close (tie.spec returns rest-lpm-requires returns-2)

@@ -8,13 +8,13 @@ use Rattle.walk.proofs.lookups.shortest_in.Statement.{statement}
 use Rattle.walk.proofs.lookups.shortest_in.Tie as tie
 
 returns : tie.Need-returns
-returns c = sym (ap (λ (b : ℕ). shortestIn b (c .before .before .args .depth) (c .before .before .args .key) (c .before .before .args .len)) (c .if1 .taken) ∙ shortest-zero (c .before .before .args .depth) (c .before .before .args .key) (c .before .before .args .len) (c .before .before .pre .from))
+returns c = sym (ap (λ (b : ℕ). shortestIn b (c .before .before .args .depth) (c .before .before .args .key) (c .before .before .args .len)) (c .if1 .taken) ∙ shortest-zero (c .before .before .args .depth) (c .before .before .args .key) (c .before .before .args .len) (c .before .before .pre .0 .from))
 
-data-spm-requires : tie.Need-data-spm-requires
-data-spm-requires c κs = (c .before .before .pre)
+rest-spm-requires : tie.Need-rest-spm-requires
+rest-spm-requires c κs = (c .before .before .pre)
 
 returns-2 : tie.Need-returns-2
 returns-2 c = search needs
 
 pub shortest-in-spec : {M : Type 1} → statement M
-shortest-in-spec = tie.close (tie.spec returns data-spm-requires returns-2)
+shortest-in-spec = tie.close (tie.spec returns rest-spm-requires returns-2)
