@@ -1,4 +1,4 @@
--- The test of a node in two halves: the rules' half, and the children's as a part of the step. Assumes nothing.
+-- The test of a node in two halves, the rules' and the children's, and where a step makes one needless. Assumes nothing.
 use mathlib.Core.Path.{_≡_, refl, sym, _∙_}
 use mathlib.Core.Bool.{Bool, true, false, _&&_}
 use Prim.Native.Nat.{ℕ, _+_, _≤_, _<_, _^_}
@@ -11,8 +11,8 @@ use Rattle.tiers.proofs.Tiers.{spacing-pos}
 use Rattle.places.specs.Places.{childBit}
 use Rattle.node.specs.declared.MultiBitNode.{MultiBitNode}
 use Rattle.walk.specs.declared.Step.{Step}
-use Rattle.walk.specs.declared.Step.the-variants.{Down, End, Broken}
-use Rattle.walk.specs.Steps.{agree, soundOf, dataWhole, childrenWhole, childrenWithin, stepOf, wholeStepOf, wholeEnd}
+use Rattle.walk.specs.declared.Step.the-variants.{Down}
+use Rattle.walk.specs.Steps.{agree, soundOf, dataWhole, childrenWhole, childrenWithin, stepOf}
 use Rattle.walk.proofs.Kept.{set-some}
 use Rattle.walk.proofs.Steps.{descent}
 
@@ -65,45 +65,9 @@ module _ (x : MultiBitNode) {s : Bool} (es : s ≡ dataWhole x) where
     pub both-hold : childrenWhole x ≡ true → soundOf x ≡ true
     both-hold f = halves x ∙ simp (← es, t, f)
 
--- ---- an end that takes the children's half with it; b says whether that holds
-module _ (x : MultiBitNode) (b : Bool) (eb : b ≡ childrenWhole x) where
-  -- it holds
-  pub end-holds : b ≡ true → End ≡ wholeEnd x
-  unfolding wholeEnd
-  end-holds t = simp (← eb, t)
-
-  -- it doesn't
-  pub end-fails : b ≡ false → Broken ≡ wholeEnd x
-  unfolding wholeEnd
-  end-fails f = simp (← eb, f)
-
--- ---- a step that takes it with it
+-- ---- what a step says of the halves
 module _ (lim key len d : ℕ) (x : MultiBitNode) where
-  -- where that half holds it is the step
-  whole-holds : childrenWhole x ≡ true → wholeStepOf lim key len d x ≡ stepOf lim key len d x
-  unfolding wholeStepOf
-  whole-holds f = simp f
-
-  -- and number 5 where it doesn't
-  whole-fails : childrenWhole x ≡ false → wholeStepOf lim key len d x ≡ Broken
-  unfolding wholeStepOf
-  whole-fails f = simp f
-
-  -- an end is an end, with the half tested
-  pub whole-ends : stepOf lim key len d x ≡ End → wholeEnd x ≡ wholeStepOf lim key len d x
-  unfolding wholeStepOf wholeEnd
-  whole-ends e = simp e
-
-  -- a block that isn't below the mark is number 5 either way
-  pub whole-broken : stepOf lim key len d x ≡ Broken → Broken ≡ wholeStepOf lim key len d x
-  unfolding wholeStepOf
-  whole-broken e = go (childrenWhole x) refl
-    where
-      go : (b : Bool) → childrenWhole x ≡ b → Broken ≡ wholeStepOf lim key len d x
-      go true f = sym (whole-holds f ∙ e)
-      go false f = sym (whole-fails f)
-
-  -- where the walk goes down the half holds: there is a child, and no block below the mark starts at the empty index
+  -- down: there is a child, and no block below the mark starts at the empty index
   children-hold : lim < 2 ^ 32 → (at : ℕ) → stepOf lim key len d x ≡ Down at → childrenWhole x ≡ true
   unfolding childrenWhole childrenWithin
   children-hold h at e =
@@ -114,32 +78,14 @@ module _ (lim key len d : ℕ) (x : MultiBitNode) where
       let in-lim = leb-true (start + spacingOf childSpacings (tierOf childSpacings n)) lim (g .within) in
       simp (ne-eqb (x .«child_bitmap») 0 (set-some (x .«child_bitmap») (childBit d key) (g .child)), ne-eqb start empty (λ z. omega arith))
 
-  -- so down is down
-  pub whole-down : lim < 2 ^ 32 → (at : ℕ) → stepOf lim key len d x ≡ Down at → Down at ≡ wholeStepOf lim key len d x
-  whole-down h at e = sym (whole-holds (children-hold h at e) ∙ e)
+  -- so a node whose rules' half holds is whole where the walk goes down from it
+  pub down-whole : lim < 2 ^ 32 → {s : Bool} → s ≡ dataWhole x → s ≡ true → {t : Step} → t ≡ stepOf lim key len d x → (at : ℕ) → t ≡ Down at → soundOf x ≡ true
+  down-whole h es holds et at e = both-hold x es holds (children-hold h at (sym et ∙ e))
 
-  -- what a whole step says, in a node whose rules' half holds
-  module _ {s : Bool} (es : s ≡ dataWhole x) (holds : s ≡ true) {t : Step} (et : t ≡ wholeStepOf lim key len d x) where
-    -- no number 5: the node is whole, and that is the step
-    passed : (t ≡ Broken → ⊥) → (soundOf x ≡ true) × (t ≡ stepOf lim key len d x)
-    passed h = go (childrenWhole x) refl
-      where
-        go : (b : Bool) → childrenWhole x ≡ b → (soundOf x ≡ true) × (t ≡ stepOf lim key len d x)
-        go true f = (both-hold x es holds f, et ∙ whole-holds f)
-        go false f = absurd (h (et ∙ whole-fails f))
-
-    -- down
-    pub passed-down : (at : ℕ) → t ≡ Down at → (soundOf x ≡ true) × (t ≡ stepOf lim key len d x)
-    passed-down at e = passed (λ b. let z : _≡_ {A = ℕ} 0 1 = cc in omega arith)
-
-    -- the end of the path
-    pub passed-end : t ≡ End → (soundOf x ≡ true) × (t ≡ stepOf lim key len d x)
-    passed-end e = passed (λ b. let z : _≡_ {A = ℕ} 0 1 = cc in omega arith)
-
-    -- number 5: the node isn't whole, or that is the step
-    pub failed : t ≡ Broken → {A : Type 0} → (soundOf x ≡ false → A) → (soundOf x ≡ true → t ≡ stepOf lim key len d x → A) → A
-    failed e {A} no-node no-step = go (childrenWhole x) refl
-      where
-        go : (b : Bool) → childrenWhole x ≡ b → A
-        go true f = no-step (both-hold x es holds f) (et ∙ whole-holds f)
-        go false f = no-node (children-fail x es holds f)
+-- a claim that holds of a node that is whole, and of one that isn't
+pub either-way : (x : MultiBitNode) {A : Type 0} → (soundOf x ≡ false → A) → (soundOf x ≡ true → A) → A
+either-way x {A} broken whole = go (soundOf x) refl
+  where
+    go : (b : Bool) → soundOf x ≡ b → A
+    go true f = whole f
+    go false f = broken f

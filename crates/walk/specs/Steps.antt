@@ -45,11 +45,3 @@ stepOf lim key len d x =
     Broken)
     End)
     End
-
--- the same step, with number 5 too where the children's half of the test fails
-unfoldable pub wholeStepOf : ℕ → ℕ → ℕ → ℕ → MultiBitNode → Step
-wholeStepOf lim key len d x = cond (childrenWhole x) (stepOf lim key len d x) Broken
-
--- the end of the path, with number 5 where that half fails
-unfoldable pub wholeEnd : MultiBitNode → Step
-wholeEnd x = cond (childrenWhole x) End Broken

@@ -16,7 +16,7 @@ ghost use Rattle.bits.specs.Bits.{count};
 ghost use Rattle.places.specs.Places.{restAt};
 ghost use Rattle.node.specs.Masks.{InTree};
 ghost use Rattle.store.specs.Words.{nodeAt};
-ghost use Rattle.walk.specs.Steps.{agree, soundOf, dataWhole, childrenWhole, childrenWithin, dataWithin, stepOf, wholeStepOf, wholeEnd};
+ghost use Rattle.walk.specs.Steps.{agree, soundOf, dataWhole, childrenWhole, childrenWithin, dataWithin, stepOf};
 
 // Bit 31, which no data bitmap has.
 const BIT_31: u32 = 0x8000_0000;
@@ -83,7 +83,8 @@ fn data_whole(x: MultiBitNode) -> bool
     x.data_bitmap < BIT_31
 }
 
-// The children's half.
+// The children's half. A lookup asks it only where its walk ends: a step down says it, as a child is there, and no block below the mark
+// starts at the empty index.
 fn children_whole(x: MultiBitNode) -> bool
     ensures { λ r. ⌜ r ≡ childrenWhole x ⌝ }
 {
@@ -140,24 +141,13 @@ pub fn next_step(lim: u32, key: u32, len: u32, depth: u32, x: MultiBitNode) -> S
     Step::End
 }
 
-// The end of the path at the node x, if the children's half of its test holds.
-fn whole_end(x: MultiBitNode) -> Step
-    ensures { λ r. ⌜ r ≡ wholeEnd x ⌝ }
-{
-    if children_whole(x) {
-        return Step::End;
-    }
-    Step::Broken
-}
-
-// A lookup's step from the node x: next_step and the children's half of the test in one, over what is left of the key.
-// Down it tests no half: a child's bit is set, and a block that lies below the mark doesn't start at the empty index.
-fn whole_step(lim: u32, key: u32, len: u32, depth: u32, rest: u32, x: MultiBitNode) -> Step
+// The same as next_step, from what is left of the key below the depth.
+fn rest_step(lim: u32, key: u32, len: u32, depth: u32, rest: u32, x: MultiBitNode) -> Step
     requires { ⌜ InTree depth len × (rest ≡ restAt key depth) ⌝ }
-    ensures { λ r. ⌜ r ≡ wholeStepOf lim key len depth x ⌝ }
+    ensures { λ r. ⌜ r ≡ stepOf lim key len depth x ⌝ }
 {
     if len - depth < ChildPool::STRIDE {
-        return whole_end(x);
+        return Step::End;
     }
     let bit = places::rest_child(rest, depth, key);
     if x.has_child_bit(bit) {
@@ -167,5 +157,5 @@ fn whole_step(lim: u32, key: u32, len: u32, depth: u32, rest: u32, x: MultiBitNo
         }
         return Step::Broken;
     }
-    whole_end(x)
+    Step::End
 }

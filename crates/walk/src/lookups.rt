@@ -114,13 +114,18 @@ pub fn longest_sight(nodes: &[u32], lim: u32, key: u32, len: u32) -> Sight
             return Sight::Unsound;
         }
         best = better_in(best, x, depth, rest, key, len);
-        match crate::whole_step(lim, key, len, depth, rest, x) {
+        match crate::rest_step(lim, key, len, depth, rest, x) {
             Step::Down(next) => {
                 at = next;
                 rest = places::rest_below(rest, depth, key);
                 depth += ChildPool::STRIDE;
             }
-            Step::End => return told(best, depth),
+            Step::End => {
+                if !crate::children_whole(x) {
+                    return Sight::Unsound;
+                }
+                return told(best, depth);
+            }
             Step::Broken => return Sight::Unsound,
         }
     }
@@ -156,13 +161,18 @@ pub fn shortest_sight(nodes: &[u32], lim: u32, key: u32, len: u32) -> Sight
                     visited_at(depth),
                 );
             }
-            Found::Nothing => match crate::whole_step(lim, key, len, depth, rest, x) {
+            Found::Nothing => match crate::rest_step(lim, key, len, depth, rest, x) {
                 Step::Down(next) => {
                     at = next;
                     rest = places::rest_below(rest, depth, key);
                     depth += ChildPool::STRIDE;
                 }
-                Step::End => return Sight::Missing(visited_at(depth)),
+                Step::End => {
+                    if !crate::children_whole(x) {
+                        return Sight::Unsound;
+                    }
+                    return Sight::Missing(visited_at(depth));
+                }
                 Step::Broken => return Sight::Unsound,
             },
         }
@@ -202,13 +212,18 @@ pub fn exact_sight(nodes: &[u32], lim: u32, key: u32, len: u32) -> Sight
         if !crate::data_whole(x) {
             return Sight::Unsound;
         }
-        match crate::whole_step(lim, key, len, depth, rest, x) {
+        match crate::rest_step(lim, key, len, depth, rest, x) {
             Step::Down(next) => {
                 at = next;
                 rest = places::rest_below(rest, depth, key);
                 depth += ChildPool::STRIDE;
             }
-            Step::End => return exact_in(x, depth, key, len),
+            Step::End => {
+                if !crate::children_whole(x) {
+                    return Sight::Unsound;
+                }
+                return exact_in(x, depth, key, len);
+            }
             Step::Broken => return Sight::Unsound,
         }
     }

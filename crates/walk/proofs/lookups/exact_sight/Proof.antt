@@ -1,6 +1,6 @@
 -- `walk::lookups::exact_sight` meets its contract. The loop's invariant: the walk stands in the tree, `rest` is what is left of the key there,
 -- and what is left of the walk gives the whole answer. The measure falls with the depth. Assumes nothing.
-use mathlib.Core.Path.{_≡_, refl, _∙_}
+use mathlib.Core.Path.{_≡_, refl, sym, _∙_}
 use Prim.Native.Nat.{_-_}
 use native.Mathlib.Omega.{arith}
 use borrow.Author.Tests.{not-true, not-false}
@@ -8,7 +8,7 @@ use lib.ListN.{length}
 use Rattle.places.specs.Places.{restAt}
 use Rattle.places.proofs.Rest.{rest-root}
 use Rattle.walk.specs.Lookups.{exactFrom, exactSight}
-use Rattle.walk.proofs.Halves.{data-fails, passed-down, passed-end, failed}
+use Rattle.walk.proofs.Halves.{data-fails, children-fail, both-hold, down-whole, either-way}
 use Rattle.walk.proofs.Turns.{left, Standing, in-slice, at-root, stands, nearer, exact-no-root, exact-root, exact-unsound, exact-broken, exact-end, exact-down}
 use borrow.Author.Needs.{needs}
 use Rattle.walk.proofs.lookups.exact_sight.Statement.{statement}
@@ -35,10 +35,11 @@ data-whole-requires : tie.Need-data-whole-requires Inv-loop μ-loop
 data-whole-requires c κs = search needs
 
 returns-2 : tie.Need-returns-2 Inv-loop μ-loop
-returns-2 c = exact-unsound ((c .before .before .before .before .before .before .args .nodes) .now) (c .before .before .before .before .before .before .args .key) ((c .before .before .before .loop .inv) .0) (c .before .before .load .ensures) refl (data-fails (c .before .before .load .result) (c .before .data-whole .ensures) (not-true (c .before .data-whole .result) (c .if2 .taken))) ∙ (c .before .before .before .loop .inv) .2
+returns-2 c =
+    exact-unsound ((c .before .before .before .before .before .before .args .nodes) .now) (c .before .before .before .before .before .before .args .key) ((c .before .before .before .loop .inv) .0) (c .before .before .load .ensures) refl (data-fails (c .before .before .load .result) (c .before .data-whole .ensures) (not-true (c .before .data-whole .result) (c .if2 .taken))) ∙ (c .before .before .before .loop .inv) .2
 
-whole-step-requires : tie.Need-whole-step-requires Inv-loop μ-loop
-whole-step-requires c κs = ((c .before .before .before .loop .inv) .0 .tree, (c .before .before .before .loop .inv) .1)
+rest-step-requires : tie.Need-rest-step-requires Inv-loop μ-loop
+rest-step-requires c κs = ((c .before .before .before .loop .inv) .0 .tree, (c .before .before .before .loop .inv) .1)
 
 enum-known-next : tie.Need-enum-known-next Inv-loop μ-loop
 enum-known-next c = search needs
@@ -51,33 +52,38 @@ add-depth c = let v = (c .before .before .before .before .before .before .before
 
 loop-less : tie.Need-loop-less Inv-loop μ-loop
 loop-less c =
-    let p = passed-down (c .before .before .before .before .before .before .before .before .before .before .before .args .lim) (c .before .before .before .before .before .before .before .before .before .before .before .args .key) (c .before .before .before .before .before .before .before .before .before .before .before .args .len) (c .before .before .before .before .before .before .before .before .loop .depth) (c .before .before .before .before .before .before .before .load .result) (c .before .before .before .before .before .before .data-whole .ensures) (not-false (c .before .before .before .before .before .before .data-whole .result) (c .before .before .before .before .before .if2 .left)) (c .before .before .before .before .whole-step .ensures) ((c .before .before .next .given) .0 .0) (search) in
-    nearer (c .before .before .before .before .before .before .before .before .before .before .before .args .key) (c .before .before .before .before .before .before .before .load .result) ((c .before .before .next .given) .0 .0) ((c .before .before .before .before .before .before .before .before .loop .inv) .0) (p .1) (search)
+    nearer (c .before .before .before .before .before .before .before .before .before .before .before .args .key) (c .before .before .before .before .before .before .before .load .result) ((c .before .before .next .given) .0 .0) ((c .before .before .before .before .before .before .before .before .loop .inv) .0) (c .before .before .before .before .rest-step .ensures) (search)
 
 loop-again : tie.Need-loop-again Inv-loop μ-loop
 loop-again c =
-    let p = passed-down (c .before .before .before .before .before .before .before .before .before .before .before .args .lim) (c .before .before .before .before .before .before .before .before .before .before .before .args .key) (c .before .before .before .before .before .before .before .before .before .before .before .args .len) (c .before .before .before .before .before .before .before .before .loop .depth) (c .before .before .before .before .before .before .before .load .result) (c .before .before .before .before .before .before .data-whole .ensures) (not-false (c .before .before .before .before .before .before .data-whole .result) (c .before .before .before .before .before .if2 .left)) (c .before .before .before .before .whole-step .ensures) ((c .before .before .next .given) .0 .0) (search) in
-    (stands (c .before .before .before .before .before .before .before .before .before .before .before .args .key) (c .before .before .before .before .before .before .before .load .result) ((c .before .before .next .given) .0 .0) ((c .before .before .before .before .before .before .before .before .loop .inv) .0) (p .1) (search), (c .rest-below .ensures), exact-down ((c .before .before .before .before .before .before .before .before .before .before .before .args .nodes) .now) (c .before .before .before .before .before .before .before .before .before .before .before .args .key) ((c .before .before .before .before .before .before .before .before .loop .inv) .0) (c .before .before .before .before .before .before .before .load .ensures) refl (p .0) (p .1) ((c .before .before .next .given) .0 .0) (search) ∙ (c .before .before .before .before .before .before .before .before .loop .inv) .2)
+    let whole = down-whole (c .before .before .before .before .before .before .before .before .before .before .before .args .lim) (c .before .before .before .before .before .before .before .before .before .before .before .args .key) (c .before .before .before .before .before .before .before .before .before .before .before .args .len) (c .before .before .before .before .before .before .before .before .loop .depth) (c .before .before .before .before .before .before .before .load .result) ((c .before .before .before .before .before .before .before .before .before .before .before .fits .lim) .fits) (c .before .before .before .before .before .before .data-whole .ensures) (not-false (c .before .before .before .before .before .before .data-whole .result) (c .before .before .before .before .before .if2 .left)) (c .before .before .before .before .rest-step .ensures) ((c .before .before .next .given) .0 .0) (search) in
+    (stands (c .before .before .before .before .before .before .before .before .before .before .before .args .key) (c .before .before .before .before .before .before .before .load .result) ((c .before .before .next .given) .0 .0) ((c .before .before .before .before .before .before .before .before .loop .inv) .0) (c .before .before .before .before .rest-step .ensures) (search), (c .rest-below .ensures), exact-down ((c .before .before .before .before .before .before .before .before .before .before .before .args .nodes) .now) (c .before .before .before .before .before .before .before .before .before .before .before .args .key) ((c .before .before .before .before .before .before .before .before .loop .inv) .0) (c .before .before .before .before .before .before .before .load .ensures) refl whole (c .before .before .before .before .rest-step .ensures) ((c .before .before .next .given) .0 .0) (search) ∙ (c .before .before .before .before .before .before .before .before .loop .inv) .2)
 
 enum-told : tie.Need-enum-told Inv-loop μ-loop
 enum-told c = search needs
 
-exact-in-requires : tie.Need-exact-in-requires Inv-loop μ-loop
-exact-in-requires c κs = (c .before .before .before .before .before .before .loop .inv) .0 .tree
+children-whole-requires : tie.Need-children-whole-requires Inv-loop μ-loop
+children-whole-requires c κs = search needs
 
 returns-3 : tie.Need-returns-3 Inv-loop μ-loop
 returns-3 c =
-    let p = passed-end (c .before .before .before .before .before .before .before .before .before .before .args .lim) (c .before .before .before .before .before .before .before .before .before .before .args .key) (c .before .before .before .before .before .before .before .before .before .before .args .len) (c .before .before .before .before .before .before .before .loop .depth) (c .before .before .before .before .before .before .load .result) (c .before .before .before .before .before .data-whole .ensures) (not-false (c .before .before .before .before .before .data-whole .result) (c .before .before .before .before .if2 .left)) (c .before .before .before .whole-step .ensures) (search) in
-    (c .exact-in .ensures) ∙ exact-end ((c .before .before .before .before .before .before .before .before .before .before .args .nodes) .now) (c .before .before .before .before .before .before .before .before .before .before .args .key) ((c .before .before .before .before .before .before .before .loop .inv) .0) (c .before .before .before .before .before .before .load .ensures) refl (p .0) (p .1) (search) ∙ (c .before .before .before .before .before .before .before .loop .inv) .2
+    exact-unsound ((c .before .before .before .before .before .before .before .before .before .before .before .args .nodes) .now) (c .before .before .before .before .before .before .before .before .before .before .before .args .key) ((c .before .before .before .before .before .before .before .before .loop .inv) .0) (c .before .before .before .before .before .before .before .load .ensures) refl (children-fail (c .before .before .before .before .before .before .before .load .result) (c .before .before .before .before .before .before .data-whole .ensures) (not-false (c .before .before .before .before .before .before .data-whole .result) (c .before .before .before .before .before .if2 .left)) (sym (c .before .children-whole .ensures) ∙ not-true (c .before .children-whole .result) (c .if3 .taken))) ∙ (c .before .before .before .before .before .before .before .before .loop .inv) .2
+
+exact-in-requires : tie.Need-exact-in-requires Inv-loop μ-loop
+exact-in-requires c κs = (c .before .before .before .before .before .before .before .before .loop .inv) .0 .tree
+
+returns-4 : tie.Need-returns-4 Inv-loop μ-loop
+returns-4 c =
+    (c .exact-in .ensures) ∙ exact-end ((c .before .before .before .before .before .before .before .before .before .before .before .before .args .nodes) .now) (c .before .before .before .before .before .before .before .before .before .before .before .before .args .key) ((c .before .before .before .before .before .before .before .before .before .loop .inv) .0) (c .before .before .before .before .before .before .before .before .load .ensures) refl (both-hold (c .before .before .before .before .before .before .before .before .load .result) (c .before .before .before .before .before .before .before .data-whole .ensures) (not-false (c .before .before .before .before .before .before .before .data-whole .result) (c .before .before .before .before .before .before .if2 .left)) (sym (c .before .before .children-whole .ensures) ∙ not-false (c .before .before .children-whole .result) (c .before .if3 .left))) (c .before .before .before .before .before .rest-step .ensures) (search) ∙ (c .before .before .before .before .before .before .before .before .before .loop .inv) .2
 
 enum-told-2 : tie.Need-enum-told-2 Inv-loop μ-loop
 enum-told-2 c = search needs
 
-returns-4 : tie.Need-returns-4 Inv-loop μ-loop
-returns-4 c =
-    failed (c .before .before .before .before .before .before .before .before .before .args .lim) (c .before .before .before .before .before .before .before .before .before .args .key) (c .before .before .before .before .before .before .before .before .before .args .len) (c .before .before .before .before .before .before .loop .depth) (c .before .before .before .before .before .load .result) (c .before .before .before .before .data-whole .ensures) (not-false (c .before .before .before .before .data-whole .result) (c .before .before .before .if2 .left)) (c .before .before .whole-step .ensures) (search)
+returns-5 : tie.Need-returns-5 Inv-loop μ-loop
+returns-5 c =
+    either-way (c .before .before .before .before .before .load .result)
     (λ f. exact-unsound ((c .before .before .before .before .before .before .before .before .before .args .nodes) .now) (c .before .before .before .before .before .before .before .before .before .args .key) ((c .before .before .before .before .before .before .loop .inv) .0) (c .before .before .before .before .before .load .ensures) refl f ∙ (c .before .before .before .before .before .before .loop .inv) .2)
-    (λ f e. exact-broken ((c .before .before .before .before .before .before .before .before .before .args .nodes) .now) (c .before .before .before .before .before .before .before .before .before .args .key) ((c .before .before .before .before .before .before .loop .inv) .0) (c .before .before .before .before .before .load .ensures) refl f e (search) ∙ (c .before .before .before .before .before .before .loop .inv) .2)
+    (λ f. exact-broken ((c .before .before .before .before .before .before .before .before .before .args .nodes) .now) (c .before .before .before .before .before .before .before .before .before .args .key) ((c .before .before .before .before .before .before .loop .inv) .0) (c .before .before .before .before .before .load .ensures) refl f (c .before .before .rest-step .ensures) (search) ∙ (c .before .before .before .before .before .before .loop .inv) .2)
 
 pub exact-sight-spec : {M : Type 1} → statement M
 exact-sight-spec =
@@ -90,14 +96,16 @@ exact-sight-spec =
     load-requires
     data-whole-requires
     returns-2
-    whole-step-requires
+    rest-step-requires
     enum-known-next
     rest-below-requires
     add-depth
     loop-less
     loop-again
     enum-told
-    exact-in-requires
+    children-whole-requires
     returns-3
+    exact-in-requires
+    returns-4
     enum-told-2
-    returns-4)
+    returns-5)
