@@ -43,11 +43,11 @@ pub fn rest_lpm_mask(rest: u32, depth: u32, key: u32, len: u32) -> u32
     requires { ⌜ InTree depth len × (rest ≡ restAt key depth) ⌝ }
     ensures { λ r. ⌜ r ≡ dataLpm depth key len ⌝ }
 {
-    let place = places::rest_place(rest, depth, key);
+    let row_place = places::rest_place(rest, depth, key);
     if len - depth < 4 {
-        patterns::path_bits(len - depth, place)
+        patterns::path_bits(len - depth, row_place)
     } else {
-        patterns::path_bits(4, place)
+        patterns::path_bits(4, row_place)
     }
 }
 

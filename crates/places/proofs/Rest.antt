@@ -4,7 +4,7 @@ use Prim.Native.Nat.{ℕ, _+_, _-_, _*_, _/_, _%_, _^_, _≤_, _<_}
 use native.Mathlib.Nat.{mul-div-cancel, mul-assoc, mul-comm}
 use native.Mathlib.Omega.{arith}
 use lib.Pow.{pow-pos, pow-add, shr-shr, field}
-use Rattle.prefix.specs.Prefix.{width, first}
+use Rattle.prefix.specs.Prefix.{width}
 use Rattle.tiers.specs.Tiers.{stride}
 use Rattle.places.specs.Places.{window, childBit, restAt}
 use Rattle.places.proofs.Windows.{window-front}

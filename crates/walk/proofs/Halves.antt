@@ -1,12 +1,12 @@
 -- The test of a node in two halves, the rules' and the children's, and where a step makes one needless. Assumes nothing.
 use mathlib.Core.Path.{_≡_, refl, sym, _∙_}
 use mathlib.Core.Bool.{Bool, true, false, _&&_}
-use Prim.Native.Nat.{ℕ, _+_, _≤_, _<_, _^_}
+use Prim.Native.Nat.{ℕ, _+_, _<_, _^_}
 use native.Mathlib.Omega.{arith}
 use borrow.Author.Tests.{eq-eqb, ne-eqb, lt-ltb, leb-true}
 use lib.Dec.{ltb, eqb}
-use Rattle.bits.specs.Bits.{has, count}
-use Rattle.tiers.specs.Tiers.{stride, empty, childSpacings, spacingOf, tierOf}
+use Rattle.bits.specs.Bits.{count}
+use Rattle.tiers.specs.Tiers.{empty, childSpacings, spacingOf, tierOf}
 use Rattle.tiers.proofs.Tiers.{spacing-pos}
 use Rattle.places.specs.Places.{childBit}
 use Rattle.node.specs.declared.MultiBitNode.{MultiBitNode}

@@ -15,7 +15,7 @@ paired-requires c κs = search needs
 
 returns : tie.Need-returns
 unfolding childrenWhole
-returns c = (c .paired .ensures) ∙ ap (λ (e : Bool). agree (eqb ((c .before .before .before .args .x) .«child_bitmap») 0) e) (c .before .is-empty .ensures)
+returns c = c .paired .ensures ∙ ap (λ (e : Bool). agree (eqb (c .before .before .before .args .x .«child_bitmap») 0) e) (c .before .is-empty .ensures)
 
 pub children-whole-spec : {M : Type 1} → statement M
 children-whole-spec = tie.close (tie.spec is-empty-requires paired-requires returns)

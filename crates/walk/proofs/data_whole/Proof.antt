@@ -1,5 +1,4 @@
 -- `walk::data_whole` meets its contract: each test gives its case. Assumes nothing.
-use mathlib.Core.Path.{_∙_}
 use Rattle.walk.proofs.Halves.{no-rules, rules-nowhere, rules-kept}
 use borrow.Author.Needs.{needs}
 use Rattle.walk.proofs.data_whole.Statement.{statement}

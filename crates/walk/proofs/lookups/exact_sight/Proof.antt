@@ -22,42 +22,60 @@ abbrev μ-loop : tie.MeasureT-loop
 μ-loop nodes lim key len at₀ depth₀ rest₀ at depth rest = 35 - depth
 
 returns : tie.Need-returns Inv-loop μ-loop
-returns c = exact-no-root ((c .before .before .args .nodes) .now) (c .before .before .args .lim) (c .before .before .args .key) (c .before .before .args .len) (c .if1 .taken)
+returns c =
+    let a = c .before .before .args in
+    exact-no-root (a .nodes .now) (a .lim) (a .key) (a .len) (c .if1 .taken)
 
 loop-holds : tie.Need-loop-holds Inv-loop μ-loop
 loop-holds c =
-    (at-root (c .before .before .args .lim) (c .before .before .args .len) ((c .before .before .pre) .0) (c .if1 .left), rest-root (c .before .before .args .key) ((c .before .before .fits .key) .fits), exact-root ((c .before .before .args .nodes) .now) (c .before .before .args .lim) (c .before .before .args .key) (c .before .before .args .len) (c .if1 .left))
+    let a = c .before .before .args in
+    (at-root (a .lim) (a .len) (c .before .before .pre .0) (c .if1 .left), rest-root (a .key) (c .before .before .fits .key .fits), exact-root (a .nodes .now) (a .lim) (a .key) (a .len) (c .if1 .left))
 
 load-requires : tie.Need-load-requires Inv-loop μ-loop
-load-requires c κs = in-slice (length ((c .before .before .before .args .nodes) .now)) ((c .loop .inv) .0) ((c .before .before .before .pre) .1)
+load-requires c κs = in-slice (length (c .before .before .before .args .nodes .now)) (c .loop .inv .0) (c .before .before .before .pre .1)
 
 data-whole-requires : tie.Need-data-whole-requires Inv-loop μ-loop
 data-whole-requires c κs = search needs
 
 returns-2 : tie.Need-returns-2 Inv-loop μ-loop
 returns-2 c =
-    exact-unsound ((c .before .before .before .before .before .before .args .nodes) .now) (c .before .before .before .before .before .before .args .key) ((c .before .before .before .loop .inv) .0) (c .before .before .load .ensures) refl (data-fails (c .before .before .load .result) (c .before .data-whole .ensures) (not-true (c .before .data-whole .result) (c .if2 .taken))) ∙ (c .before .before .before .loop .inv) .2
+    let a = c .before .before .before .before .before .before .args in
+    let w = c .before .before .before .loop in
+    let x = c .before .before .load in
+    let s = c .before .data-whole in
+    exact-unsound (a .nodes .now) (a .key) (w .inv .0) (x .ensures) refl (data-fails (x .result) (s .ensures) (not-true (s .result) (c .if2 .taken))) ∙ w .inv .2
 
 rest-step-requires : tie.Need-rest-step-requires Inv-loop μ-loop
-rest-step-requires c κs = ((c .before .before .before .loop .inv) .0 .tree, (c .before .before .before .loop .inv) .1)
+rest-step-requires c κs = (c .before .before .before .loop .inv .0 .tree, c .before .before .before .loop .inv .1)
 
 enum-known-next : tie.Need-enum-known-next Inv-loop μ-loop
 enum-known-next c = search needs
 
 rest-below-requires : tie.Need-rest-below-requires Inv-loop μ-loop
-rest-below-requires c κs = (c .before .before .before .before .before .before .before .loop .inv) .1
+rest-below-requires c κs = c .before .before .before .before .before .before .before .loop .inv .1
 
 add-depth : tie.Need-add-depth Inv-loop μ-loop
-add-depth c = let v = (c .before .before .before .before .before .before .before .before .loop .inv) .0 .tree in let u = v .from in let l = v .within in omega arith
+add-depth c = let v = c .before .before .before .before .before .before .before .before .loop .inv .0 .tree in let u = v .from in let l = v .within in omega arith
 
 loop-less : tie.Need-loop-less Inv-loop μ-loop
 loop-less c =
-    nearer (c .before .before .before .before .before .before .before .before .before .before .before .args .key) (c .before .before .before .before .before .before .before .load .result) ((c .before .before .next .given) .0 .0) ((c .before .before .before .before .before .before .before .before .loop .inv) .0) (c .before .before .before .before .rest-step .ensures) (search)
+    let a = c .before .before .before .before .before .before .before .before .before .before .before .args in
+    let w = c .before .before .before .before .before .before .before .before .loop in
+    let x = c .before .before .before .before .before .before .before .load in
+    let t = c .before .before .before .before .rest-step in
+    nearer (a .key) (x .result) (c .before .before .next .given .0 .0) (w .inv .0) (t .ensures) (search)
 
 loop-again : tie.Need-loop-again Inv-loop μ-loop
 loop-again c =
-    let whole = down-whole (c .before .before .before .before .before .before .before .before .before .before .before .args .lim) (c .before .before .before .before .before .before .before .before .before .before .before .args .key) (c .before .before .before .before .before .before .before .before .before .before .before .args .len) (c .before .before .before .before .before .before .before .before .loop .depth) (c .before .before .before .before .before .before .before .load .result) ((c .before .before .before .before .before .before .before .before .before .before .before .fits .lim) .fits) (c .before .before .before .before .before .before .data-whole .ensures) (not-false (c .before .before .before .before .before .before .data-whole .result) (c .before .before .before .before .before .if2 .left)) (c .before .before .before .before .rest-step .ensures) ((c .before .before .next .given) .0 .0) (search) in
-    (stands (c .before .before .before .before .before .before .before .before .before .before .before .args .key) (c .before .before .before .before .before .before .before .load .result) ((c .before .before .next .given) .0 .0) ((c .before .before .before .before .before .before .before .before .loop .inv) .0) (c .before .before .before .before .rest-step .ensures) (search), (c .rest-below .ensures), exact-down ((c .before .before .before .before .before .before .before .before .before .before .before .args .nodes) .now) (c .before .before .before .before .before .before .before .before .before .before .before .args .key) ((c .before .before .before .before .before .before .before .before .loop .inv) .0) (c .before .before .before .before .before .before .before .load .ensures) refl whole (c .before .before .before .before .rest-step .ensures) ((c .before .before .next .given) .0 .0) (search) ∙ (c .before .before .before .before .before .before .before .before .loop .inv) .2)
+    let a = c .before .before .before .before .before .before .before .before .before .before .before .args in
+    let w = c .before .before .before .before .before .before .before .before .loop in
+    let x = c .before .before .before .before .before .before .before .load in
+    let s = c .before .before .before .before .before .before .data-whole in
+    let f = c .before .before .before .before .before .if2 in
+    let t = c .before .before .before .before .rest-step in
+    let g = c .before .before .next in
+    let whole = down-whole (a .lim) (a .key) (a .len) (w .depth) (x .result) (c .before .before .before .before .before .before .before .before .before .before .before .fits .lim .fits) (s .ensures) (not-false (s .result) (f .left)) (t .ensures) (g .given .0 .0) (search) in
+    (stands (a .key) (x .result) (g .given .0 .0) (w .inv .0) (t .ensures) (search), c .rest-below .ensures, exact-down (a .nodes .now) (a .key) (w .inv .0) (x .ensures) refl whole (t .ensures) (g .given .0 .0) (search) ∙ w .inv .2)
 
 enum-told : tie.Need-enum-told Inv-loop μ-loop
 enum-told c = search needs
@@ -67,23 +85,39 @@ children-whole-requires c κs = search needs
 
 returns-3 : tie.Need-returns-3 Inv-loop μ-loop
 returns-3 c =
-    exact-unsound ((c .before .before .before .before .before .before .before .before .before .before .before .args .nodes) .now) (c .before .before .before .before .before .before .before .before .before .before .before .args .key) ((c .before .before .before .before .before .before .before .before .loop .inv) .0) (c .before .before .before .before .before .before .before .load .ensures) refl (children-fail (c .before .before .before .before .before .before .before .load .result) (c .before .before .before .before .before .before .data-whole .ensures) (not-false (c .before .before .before .before .before .before .data-whole .result) (c .before .before .before .before .before .if2 .left)) (sym (c .before .children-whole .ensures) ∙ not-true (c .before .children-whole .result) (c .if3 .taken))) ∙ (c .before .before .before .before .before .before .before .before .loop .inv) .2
+    let a = c .before .before .before .before .before .before .before .before .before .before .before .args in
+    let w = c .before .before .before .before .before .before .before .before .loop in
+    let x = c .before .before .before .before .before .before .before .load in
+    let s = c .before .before .before .before .before .before .data-whole in
+    let f = c .before .before .before .before .before .if2 in
+    let k = c .before .children-whole in
+    exact-unsound (a .nodes .now) (a .key) (w .inv .0) (x .ensures) refl (children-fail (x .result) (s .ensures) (not-false (s .result) (f .left)) (sym (k .ensures) ∙ not-true (k .result) (c .if3 .taken))) ∙ w .inv .2
 
 exact-in-requires : tie.Need-exact-in-requires Inv-loop μ-loop
-exact-in-requires c κs = (c .before .before .before .before .before .before .before .before .loop .inv) .0 .tree
+exact-in-requires c κs = c .before .before .before .before .before .before .before .before .loop .inv .0 .tree
 
 returns-4 : tie.Need-returns-4 Inv-loop μ-loop
 returns-4 c =
-    (c .exact-in .ensures) ∙ exact-end ((c .before .before .before .before .before .before .before .before .before .before .before .before .args .nodes) .now) (c .before .before .before .before .before .before .before .before .before .before .before .before .args .key) ((c .before .before .before .before .before .before .before .before .before .loop .inv) .0) (c .before .before .before .before .before .before .before .before .load .ensures) refl (both-hold (c .before .before .before .before .before .before .before .before .load .result) (c .before .before .before .before .before .before .before .data-whole .ensures) (not-false (c .before .before .before .before .before .before .before .data-whole .result) (c .before .before .before .before .before .before .if2 .left)) (sym (c .before .before .children-whole .ensures) ∙ not-false (c .before .before .children-whole .result) (c .before .if3 .left))) (c .before .before .before .before .before .rest-step .ensures) (search) ∙ (c .before .before .before .before .before .before .before .before .before .loop .inv) .2
+    let a = c .before .before .before .before .before .before .before .before .before .before .before .before .args in
+    let w = c .before .before .before .before .before .before .before .before .before .loop in
+    let x = c .before .before .before .before .before .before .before .before .load in
+    let s = c .before .before .before .before .before .before .before .data-whole in
+    let f = c .before .before .before .before .before .before .if2 in
+    let t = c .before .before .before .before .before .rest-step in
+    let k = c .before .before .children-whole in
+    c .exact-in .ensures ∙ exact-end (a .nodes .now) (a .key) (w .inv .0) (x .ensures) refl (both-hold (x .result) (s .ensures) (not-false (s .result) (f .left)) (sym (k .ensures) ∙ not-false (k .result) (c .before .if3 .left))) (t .ensures) (search) ∙ w .inv .2
 
 enum-told-2 : tie.Need-enum-told-2 Inv-loop μ-loop
 enum-told-2 c = search needs
 
 returns-5 : tie.Need-returns-5 Inv-loop μ-loop
 returns-5 c =
-    either-way (c .before .before .before .before .before .load .result)
-    (λ f. exact-unsound ((c .before .before .before .before .before .before .before .before .before .args .nodes) .now) (c .before .before .before .before .before .before .before .before .before .args .key) ((c .before .before .before .before .before .before .loop .inv) .0) (c .before .before .before .before .before .load .ensures) refl f ∙ (c .before .before .before .before .before .before .loop .inv) .2)
-    (λ f. exact-broken ((c .before .before .before .before .before .before .before .before .before .args .nodes) .now) (c .before .before .before .before .before .before .before .before .before .args .key) ((c .before .before .before .before .before .before .loop .inv) .0) (c .before .before .before .before .before .load .ensures) refl f (c .before .before .rest-step .ensures) (search) ∙ (c .before .before .before .before .before .before .loop .inv) .2)
+    let a = c .before .before .before .before .before .before .before .before .before .args in
+    let w = c .before .before .before .before .before .before .loop in
+    let x = c .before .before .before .before .before .load in
+    either-way (x .result)
+    (λ f. exact-unsound (a .nodes .now) (a .key) (w .inv .0) (x .ensures) refl f ∙ w .inv .2)
+    (λ f. exact-broken (a .nodes .now) (a .key) (w .inv .0) (x .ensures) refl f (c .before .before .rest-step .ensures) (search) ∙ w .inv .2)
 
 pub exact-sight-spec : {M : Type 1} → statement M
 exact-sight-spec =

@@ -22,46 +22,65 @@ abbrev μ-loop : tie.MeasureT-loop
 μ-loop nodes lim key len at₀ depth₀ rest₀ best₀ at depth rest best = 35 - depth
 
 returns : tie.Need-returns Inv-loop μ-loop
-returns c = longest-no-root ((c .before .before .args .nodes) .now) (c .before .before .args .lim) (c .before .before .args .key) (c .before .before .args .len) (c .if1 .taken)
+returns c =
+    let a = c .before .before .args in
+    longest-no-root (a .nodes .now) (a .lim) (a .key) (a .len) (c .if1 .taken)
 
 loop-holds : tie.Need-loop-holds Inv-loop μ-loop
 unfolding bestSight
 loop-holds c =
-    (at-root (c .before .before .args .lim) (c .before .before .args .len) ((c .before .before .pre) .0) (c .if1 .left), rest-root (c .before .before .args .key) ((c .before .before .fits .key) .fits), record { low = omega arith; near = omega arith }, longest-root ((c .before .before .args .nodes) .now) (c .before .before .args .lim) (c .before .before .args .key) (c .before .before .args .len) (c .if1 .left))
+    let a = c .before .before .args in
+    (at-root (a .lim) (a .len) (c .before .before .pre .0) (c .if1 .left), rest-root (a .key) (c .before .before .fits .key .fits), record { low = omega arith; near = omega arith }, longest-root (a .nodes .now) (a .lim) (a .key) (a .len) (c .if1 .left))
 
 load-requires : tie.Need-load-requires Inv-loop μ-loop
-load-requires c κs = in-slice (length ((c .before .before .before .args .nodes) .now)) ((c .loop .inv) .0) ((c .before .before .before .pre) .1)
+load-requires c κs = in-slice (length (c .before .before .before .args .nodes .now)) (c .loop .inv .0) (c .before .before .before .pre .1)
 
 data-whole-requires : tie.Need-data-whole-requires Inv-loop μ-loop
 data-whole-requires c κs = search needs
 
 returns-2 : tie.Need-returns-2 Inv-loop μ-loop
 returns-2 c =
-    longest-unsound ((c .before .before .before .before .before .before .args .nodes) .now) (c .before .before .before .before .before .before .args .key) ((c .before .before .before .loop .inv) .0) (c .before .before .load .ensures) refl (bestSight (c .before .before .before .loop .best)) (data-fails (c .before .before .load .result) (c .before .data-whole .ensures) (not-true (c .before .data-whole .result) (c .if2 .taken))) ∙ (c .before .before .before .loop .inv) .3
+    let a = c .before .before .before .before .before .before .args in
+    let w = c .before .before .before .loop in
+    let x = c .before .before .load in
+    let s = c .before .data-whole in
+    longest-unsound (a .nodes .now) (a .key) (w .inv .0) (x .ensures) refl (bestSight (w .best)) (data-fails (x .result) (s .ensures) (not-true (s .result) (c .if2 .taken))) ∙ w .inv .3
 
 better-in-requires : tie.Need-better-in-requires Inv-loop μ-loop
-better-in-requires c κs = ((c .before .before .before .loop .inv) .0 .tree, (c .before .before .before .loop .inv) .1, (c .before .before .before .loop .inv) .2)
+better-in-requires c κs = (c .before .before .before .loop .inv .0 .tree, c .before .before .before .loop .inv .1, c .before .before .before .loop .inv .2)
 
 rest-step-requires : tie.Need-rest-step-requires Inv-loop μ-loop
-rest-step-requires c κs = ((c .before .before .before .before .loop .inv) .0 .tree, (c .before .before .before .before .loop .inv) .1)
+rest-step-requires c κs = (c .before .before .before .before .loop .inv .0 .tree, c .before .before .before .before .loop .inv .1)
 
 enum-known-next : tie.Need-enum-known-next Inv-loop μ-loop
 enum-known-next c = search needs
 
 rest-below-requires : tie.Need-rest-below-requires Inv-loop μ-loop
-rest-below-requires c κs = (c .before .before .before .before .before .before .before .before .loop .inv) .1
+rest-below-requires c κs = c .before .before .before .before .before .before .before .before .loop .inv .1
 
 add-depth : tie.Need-add-depth Inv-loop μ-loop
-add-depth c = let v = (c .before .before .before .before .before .before .before .before .before .loop .inv) .0 .tree in let u = v .from in let l = v .within in omega arith
+add-depth c = let v = c .before .before .before .before .before .before .before .before .before .loop .inv .0 .tree in let u = v .from in let l = v .within in omega arith
 
 loop-less : tie.Need-loop-less Inv-loop μ-loop
 loop-less c =
-    nearer (c .before .before .before .before .before .before .before .before .before .before .before .before .args .key) (c .before .before .before .before .before .before .before .before .load .result) ((c .before .before .next .given) .0 .0) ((c .before .before .before .before .before .before .before .before .before .loop .inv) .0) (c .before .before .before .before .rest-step .ensures) (search)
+    let a = c .before .before .before .before .before .before .before .before .before .before .before .before .args in
+    let w = c .before .before .before .before .before .before .before .before .before .loop in
+    let x = c .before .before .before .before .before .before .before .before .load in
+    let t = c .before .before .before .before .rest-step in
+    nearer (a .key) (x .result) (c .before .before .next .given .0 .0) (w .inv .0) (t .ensures) (search)
 
 loop-again : tie.Need-loop-again Inv-loop μ-loop
 loop-again c =
-    let whole = down-whole (c .before .before .before .before .before .before .before .before .before .before .before .before .args .lim) (c .before .before .before .before .before .before .before .before .before .before .before .before .args .key) (c .before .before .before .before .before .before .before .before .before .before .before .before .args .len) (c .before .before .before .before .before .before .before .before .before .loop .depth) (c .before .before .before .before .before .before .before .before .load .result) ((c .before .before .before .before .before .before .before .before .before .before .before .before .fits .lim) .fits) (c .before .before .before .before .before .before .before .data-whole .ensures) (not-false (c .before .before .before .before .before .before .before .data-whole .result) (c .before .before .before .before .before .before .if2 .left)) (c .before .before .before .before .rest-step .ensures) ((c .before .before .next .given) .0 .0) (search) in
-    (stands (c .before .before .before .before .before .before .before .before .before .before .before .before .args .key) (c .before .before .before .before .before .before .before .before .load .result) ((c .before .before .next .given) .0 .0) ((c .before .before .before .before .before .before .before .before .before .loop .inv) .0) (c .before .before .before .before .rest-step .ensures) (search), (c .rest-below .ensures), (c .before .before .before .before .before .better-in .ensures) .1, longest-down ((c .before .before .before .before .before .before .before .before .before .before .before .before .args .nodes) .now) (c .before .before .before .before .before .before .before .before .before .before .before .before .args .key) ((c .before .before .before .before .before .before .before .before .before .loop .inv) .0) (c .before .before .before .before .before .before .before .before .load .ensures) refl (bestSight (c .before .before .before .before .before .before .before .before .before .loop .best)) whole ((c .before .before .before .before .before .better-in .ensures) .0) (c .before .before .before .before .rest-step .ensures) ((c .before .before .next .given) .0 .0) (search) ∙ (c .before .before .before .before .before .before .before .before .before .loop .inv) .3)
+    let a = c .before .before .before .before .before .before .before .before .before .before .before .before .args in
+    let w = c .before .before .before .before .before .before .before .before .before .loop in
+    let x = c .before .before .before .before .before .before .before .before .load in
+    let s = c .before .before .before .before .before .before .before .data-whole in
+    let f = c .before .before .before .before .before .before .if2 in
+    let b = c .before .before .before .before .before .better-in in
+    let t = c .before .before .before .before .rest-step in
+    let g = c .before .before .next in
+    let whole = down-whole (a .lim) (a .key) (a .len) (w .depth) (x .result) (c .before .before .before .before .before .before .before .before .before .before .before .before .fits .lim .fits) (s .ensures) (not-false (s .result) (f .left)) (t .ensures) (g .given .0 .0) (search) in
+    (stands (a .key) (x .result) (g .given .0 .0) (w .inv .0) (t .ensures) (search), c .rest-below .ensures, b .ensures .1, longest-down (a .nodes .now) (a .key) (w .inv .0) (x .ensures) refl (bestSight (w .best)) whole (b .ensures .0) (t .ensures) (g .given .0 .0) (search) ∙ w .inv .3)
 
 enum-told : tie.Need-enum-told Inv-loop μ-loop
 enum-told c = search needs
@@ -71,23 +90,43 @@ children-whole-requires c κs = search needs
 
 returns-3 : tie.Need-returns-3 Inv-loop μ-loop
 returns-3 c =
-    longest-unsound ((c .before .before .before .before .before .before .before .before .before .before .before .before .args .nodes) .now) (c .before .before .before .before .before .before .before .before .before .before .before .before .args .key) ((c .before .before .before .before .before .before .before .before .before .loop .inv) .0) (c .before .before .before .before .before .before .before .before .load .ensures) refl (bestSight (c .before .before .before .before .before .before .before .before .before .loop .best)) (children-fail (c .before .before .before .before .before .before .before .before .load .result) (c .before .before .before .before .before .before .before .data-whole .ensures) (not-false (c .before .before .before .before .before .before .before .data-whole .result) (c .before .before .before .before .before .before .if2 .left)) (sym (c .before .children-whole .ensures) ∙ not-true (c .before .children-whole .result) (c .if3 .taken))) ∙ (c .before .before .before .before .before .before .before .before .before .loop .inv) .3
+    let a = c .before .before .before .before .before .before .before .before .before .before .before .before .args in
+    let w = c .before .before .before .before .before .before .before .before .before .loop in
+    let x = c .before .before .before .before .before .before .before .before .load in
+    let s = c .before .before .before .before .before .before .before .data-whole in
+    let f = c .before .before .before .before .before .before .if2 in
+    let k = c .before .children-whole in
+    longest-unsound (a .nodes .now) (a .key) (w .inv .0) (x .ensures) refl (bestSight (w .best)) (children-fail (x .result) (s .ensures) (not-false (s .result) (f .left)) (sym (k .ensures) ∙ not-true (k .result) (c .if3 .taken))) ∙ w .inv .3
 
 told-requires : tie.Need-told-requires Inv-loop μ-loop
-told-requires c κs = let v = (c .before .before .before .before .before .before .before .before .before .loop .inv) .0 .tree in let u = v .from in let l = v .within in ((c .before .before .before .before .before .better-in .ensures) .1, omega arith)
+told-requires c κs =
+    let w = c .before .before .before .before .before .before .before .before .before .loop in
+    let b = c .before .before .before .before .before .better-in in
+    let v = w .inv .0 .tree in let u = v .from in let l = v .within in (b .ensures .1, omega arith)
 
 returns-4 : tie.Need-returns-4 Inv-loop μ-loop
 returns-4 c =
-    (c .told .ensures) ∙ longest-end ((c .before .before .before .before .before .before .before .before .before .before .before .before .before .args .nodes) .now) (c .before .before .before .before .before .before .before .before .before .before .before .before .before .args .key) ((c .before .before .before .before .before .before .before .before .before .before .loop .inv) .0) (c .before .before .before .before .before .before .before .before .before .load .ensures) refl (bestSight (c .before .before .before .before .before .before .before .before .before .before .loop .best)) (both-hold (c .before .before .before .before .before .before .before .before .before .load .result) (c .before .before .before .before .before .before .before .before .data-whole .ensures) (not-false (c .before .before .before .before .before .before .before .before .data-whole .result) (c .before .before .before .before .before .before .before .if2 .left)) (sym (c .before .before .children-whole .ensures) ∙ not-false (c .before .before .children-whole .result) (c .before .if3 .left))) ((c .before .before .before .before .before .before .better-in .ensures) .0) (c .before .before .before .before .before .rest-step .ensures) (search) ∙ (c .before .before .before .before .before .before .before .before .before .before .loop .inv) .3
+    let a = c .before .before .before .before .before .before .before .before .before .before .before .before .before .args in
+    let w = c .before .before .before .before .before .before .before .before .before .before .loop in
+    let x = c .before .before .before .before .before .before .before .before .before .load in
+    let s = c .before .before .before .before .before .before .before .before .data-whole in
+    let f = c .before .before .before .before .before .before .before .if2 in
+    let b = c .before .before .before .before .before .before .better-in in
+    let t = c .before .before .before .before .before .rest-step in
+    let k = c .before .before .children-whole in
+    c .told .ensures ∙ longest-end (a .nodes .now) (a .key) (w .inv .0) (x .ensures) refl (bestSight (w .best)) (both-hold (x .result) (s .ensures) (not-false (s .result) (f .left)) (sym (k .ensures) ∙ not-false (k .result) (c .before .if3 .left))) (b .ensures .0) (t .ensures) (search) ∙ w .inv .3
 
 enum-told-2 : tie.Need-enum-told-2 Inv-loop μ-loop
 enum-told-2 c = search needs
 
 returns-5 : tie.Need-returns-5 Inv-loop μ-loop
 returns-5 c =
-    either-way (c .before .before .before .before .before .before .load .result)
-    (λ f. longest-unsound ((c .before .before .before .before .before .before .before .before .before .before .args .nodes) .now) (c .before .before .before .before .before .before .before .before .before .before .args .key) ((c .before .before .before .before .before .before .before .loop .inv) .0) (c .before .before .before .before .before .before .load .ensures) refl (bestSight (c .before .before .before .before .before .before .before .loop .best)) f ∙ (c .before .before .before .before .before .before .before .loop .inv) .3)
-    (λ f. longest-broken ((c .before .before .before .before .before .before .before .before .before .before .args .nodes) .now) (c .before .before .before .before .before .before .before .before .before .before .args .key) ((c .before .before .before .before .before .before .before .loop .inv) .0) (c .before .before .before .before .before .before .load .ensures) refl (bestSight (c .before .before .before .before .before .before .before .loop .best)) f ((c .before .before .before .better-in .ensures) .0) (c .before .before .rest-step .ensures) (search) ∙ (c .before .before .before .before .before .before .before .loop .inv) .3)
+    let a = c .before .before .before .before .before .before .before .before .before .before .args in
+    let w = c .before .before .before .before .before .before .before .loop in
+    let x = c .before .before .before .before .before .before .load in
+    either-way (x .result)
+    (λ f. longest-unsound (a .nodes .now) (a .key) (w .inv .0) (x .ensures) refl (bestSight (w .best)) f ∙ w .inv .3)
+    (λ f. longest-broken (a .nodes .now) (a .key) (w .inv .0) (x .ensures) refl (bestSight (w .best)) f (c .before .before .before .better-in .ensures .0) (c .before .before .rest-step .ensures) (search) ∙ w .inv .3)
 
 pub longest-sight-spec : {M : Type 1} → statement M
 longest-sight-spec =
