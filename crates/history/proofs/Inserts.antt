@@ -39,7 +39,8 @@ use Rattle.image.proofs.Cells.{cell-there}
 use Rattle.history.specs.Calls.{stored}
 use Rattle.history.proofs.Booked.{Booked, cell-shape}
 use Rattle.history.proofs.Settling.{Done, settle}
-use Rattle.history.proofs.Keeping.{cell-moves, of-cells, cells-fit, kept-booked}
+use Rattle.history.proofs.Homes.{of-cells}
+use Rattle.history.proofs.Keeping.{cell-moves, cells-fit, kept-booked}
 
 module _ {N D : ℕ} {g : Ledger Cell} {s : State} {m : Memory} (b : Booked N D g s m) (key len : ℕ) (v : Cell) (prefix : IsPrefix key len) where
   -- the node where the rule lives
@@ -125,7 +126,7 @@ module _ {N D : ℕ} {g : Ledger Cell} {s : State} {m : Memory} (b : Booked N D 
         ∙ grow-number dataTop (s .cells) (m .cell-free) (s .cells .mark)
         (coloured-stock dataTop (s .cells) (m .cell-free) (b .od) (b .image .values .blocks)) (startOf (items (b .R) home) (b .vs home)) (items (b .R) home)
         (λ h. rw (start-some (items (b .R) home) (b .vs home) h) (block-below (b .image .values) home h)) (cells-fit b key len v prefix absent)
-        ∙ of-cells b key len v prefix absent (λ K c a. numberOf K (rise K c) a ≡ cond cellsOk 0 4)
+        ∙ of-cells b key len prefix (λ K c a. numberOf K (rise K c) a ≡ cond cellsOk 0 4)
         (ap (λ (ms : List Move). numberOf (cellPool D) ms (g .cells)) (sym (cell-moves b key len v prefix absent)))
 
     -- its node is there: no node is missing

@@ -5,7 +5,6 @@ use mathlib.Core.Option.{none}
 use mathlib.Core.List.{List}
 use Prim.Native.Nat.{ℕ, _+_, _/_}
 use native.Mathlib.Omega.{arith}
-use Rattle.prefix.specs.Prefix.{first}
 use Rattle.tiers.specs.Tiers.{stride, dataTop}
 use Rattle.places.specs.Places.{dataBit}
 use Rattle.places.proofs.Prefixes.{data-lt}
@@ -16,8 +15,7 @@ use Rattle.edits.specs.Adding.{keepOf}
 use Rattle.map.specs.declared.State.{State}
 use Rattle.map.specs.Memory.{Memory, memory, stateAs}
 use Rattle.rules.specs.Rules.{put, valueAt, isSome, edited, IsPrefix}
-use Rattle.rules.specs.Nodes.{depth}
-use Rattle.rules.specs.Account.{Kind, nodePool, cellPool, Account, run}
+use Rattle.rules.specs.Account.{nodePool, cellPool, run}
 use Rattle.rules.specs.Ledger.{Ledger, rise, dataOn, nodeMoves, cellMoves, insertRoom, entered, accepts}
 use Rattle.rules.proofs.Returns.{Fits, insert-fits}
 use Rattle.rules.proofs.RuleCount.{rules-more}
@@ -29,12 +27,11 @@ use Rattle.pools.proofs.Accounts.{grow-account, grow-size}
 use Rattle.image.specs.Numbers.{pathNo, ruleNo}
 use Rattle.image.specs.Tree.{Tree}
 use Rattle.image.specs.Image.{startOf, nodeOf, Image}
-use Rattle.image.proofs.Paths.{path-low, rule-node, rule-bit}
-use Rattle.image.proofs.Data.{data-are}
+use Rattle.image.proofs.Paths.{rule-node, rule-bit}
 use Rattle.image.proofs.Words.{bits-count}
 use Rattle.image.proofs.Keeping.{keep-image}
-use Rattle.history.proofs.Booked.{Booked, cell-kind, cell-shape}
-use Rattle.history.proofs.Settling.{alike}
+use Rattle.history.proofs.Booked.{Booked, cell-shape}
+use Rattle.history.proofs.Homes.{of-cells}
 
 -- what is kept of a node's rules: the pool, after the block has grown
 pub keep-pool : (q : Pool) (nodes cells f : List ℕ) (at : ℕ) (E D : ℕ → Bool) (es vs : ℕ → ℕ) (n i : ℕ) (v : Cell)
@@ -48,12 +45,6 @@ module _ {N D : ℕ} {g : Ledger Cell} {s : State} {m : Memory} (b : Booked N D 
     abbrev home : ℕ
     home = pathNo key (len / stride)
 
-    -- the node has as many rules as the ledger says
-    pub rules-there : items (b .R) home ≡ dataOn (g .rules) key len
-    rules-there =
-        data-are (b .proper) (b .tree) (len / stride) (first (depth (len / stride)) key) (omega (arith, prefix .short))
-        (path-low key (len / stride) (prefix .bits) (omega (arith, prefix .short)))
-
     -- its rule isn't there yet
     pub not-there : b .R (ruleNo key len) ≡ false
     not-there = b .tree .rule-is key len prefix ∙ ap isSome absent
@@ -63,17 +54,14 @@ module _ {N D : ℕ} {g : Ledger Cell} {s : State} {m : Memory} (b : Booked N D 
     unfolding cellMoves
     cell-moves = rw absent
 
-    -- what the ledger says of them holds of the map's pool
-    pub of-cells : (P : Kind → ℕ → Account → Type 0) → P (cellPool D) (dataOn (g .rules) key len) (g .cells) → P (kindOf dataTop (s .cells)) (items (b .R) home) (accountOf (s .cells))
-    of-cells P p = alike P (cell-kind b) rules-there (b .cell-account) p
-
+    -- each block that comes back finds a place
     pub cells-fit : Fits (kindOf dataTop (s .cells)) (rise (kindOf dataTop (s .cells)) (items (b .R) home)) (accountOf (s .cells))
-    cells-fit = of-cells (λ K c a. Fits K (rise K c) a)
+    cells-fit = of-cells b key len prefix (λ K c a. Fits K (rise K c) a)
         (subst (λ (ms : List _). Fits (cellPool D) ms (g .cells)) cell-moves (insert-fits N D g (b .proper) (b .balanced) key len prefix v .1))
 
     module _ (room : insertRoom N D g key len ≡ true) (enough : supplied (cellPool D) (cellMoves D (g .rules) (put key len v)) (g .cells) ≡ true) where
       given : supplied (kindOf dataTop (s .cells)) (rise (kindOf dataTop (s .cells)) (items (b .R) home)) (accountOf (s .cells)) ≡ true
-      given = of-cells (λ K c a. supplied K (rise K c) a ≡ true) (subst (λ (ms : List _). supplied (cellPool D) ms (g .cells) ≡ true) cell-moves enough)
+      given = of-cells b key len prefix (λ K c a. supplied K (rise K c) a ≡ true) (subst (λ (ms : List _). supplied (cellPool D) ms (g .cells) ≡ true) cell-moves enough)
 
       -- the rule kept in its node, on any image of the nodes: the ledger with the insert entered
       pub kept-booked : (p : Pool) (nodes nf : List ℕ) (E : ℕ → Bool) (es : ℕ → ℕ) (on : ℕ → Owner)
@@ -114,4 +102,4 @@ module _ {N D : ℕ} {g : Ledger Cell} {s : State} {m : Memory} (b : Booked N D 
 
           ledger-run : run (kindOf dataTop (s .cells)) (rise (kindOf dataTop (s .cells)) (items (b .R) home)) (accountOf (s .cells))
               ≡ run (cellPool D) (cellMoves D (g .rules) (put key len v)) (g .cells)
-          ledger-run = of-cells (λ K c a. run K (rise K c) a ≡ run (cellPool D) (cellMoves D (g .rules) (put key len v)) (g .cells)) (ap (λ (ms : List _). run (cellPool D) ms (g .cells)) (sym cell-moves))
+          ledger-run = of-cells b key len prefix (λ K c a. run K (rise K c) a ≡ run (cellPool D) (cellMoves D (g .rules) (put key len v)) (g .cells)) (ap (λ (ms : List _). run (cellPool D) ms (g .cells)) (sym cell-moves))

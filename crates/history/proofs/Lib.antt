@@ -4,6 +4,7 @@ pub mod Starting
 pub mod Settling
 pub mod TooLong
 pub mod Lookups
+pub mod Homes
 pub mod Keeping
 pub mod Inserts
 pub mod Making

@@ -50,7 +50,8 @@ use Rattle.history.specs.Calls.{stored}
 use Rattle.history.proofs.Masked.{masked-prefix, value-masked, put-entered, insert-masked}
 use Rattle.history.proofs.Booked.{Booked, node-kind, edit-first}
 use Rattle.history.proofs.Settling.{Done, done-as, alike, settle-both}
-use Rattle.history.proofs.Keeping.{cell-moves, of-cells, cells-fit, kept-booked}
+use Rattle.history.proofs.Homes.{of-cells}
+use Rattle.history.proofs.Keeping.{cell-moves, cells-fit, kept-booked}
 use Rattle.history.proofs.Inserts.{home, homeNode, nodesOk, cellsOk, room-is, Left, replaced, kept-here}
 
 module _ {N D : ℕ} {g : Ledger Cell} {s : State} {m : Memory} (b : Booked N D g s m) (key len : ℕ) (v : Cell) (prefix : IsPrefix key len) where
@@ -131,7 +132,7 @@ module _ {N D : ℕ} {g : Ledger Cell} {s : State} {m : Memory} (b : Booked N D 
         (λ h. absurd (omega arith))
         (subst (λ (c : ℕ). Fits (kindOf dataTop (s .cells)) (rise (kindOf dataTop (s .cells)) c) (accountOf (s .cells))) bare (cells-fit b key len v prefix absent))
         ∙ subst (λ (c : ℕ). numberOf (kindOf dataTop (s .cells)) (rise (kindOf dataTop (s .cells)) c) (accountOf (s .cells)) ≡ cond (cellsOk b key len v prefix) 0 4) bare
-        (of-cells b key len v prefix absent (λ K c a. numberOf K (rise K c) a ≡ cond (cellsOk b key len v prefix) 0 4)
+        (of-cells b key len prefix (λ K c a. numberOf K (rise K c) a ≡ cond (cellsOk b key len v prefix) 0 4)
         (ap (λ (ms : List Move). numberOf (cellPool D) ms (g .cells)) (sym (cell-moves b key len v prefix absent))))
 
     -- made and kept: the ledger with the insert entered

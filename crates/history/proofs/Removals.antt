@@ -34,20 +34,21 @@ use Rattle.pools.specs.Accounts.{kindOf, accountOf, supplied, numberOf}
 use Rattle.pools.proofs.Items.{items-out}
 use Rattle.pools.proofs.Colours.{coloured-stock}
 use Rattle.pools.proofs.Growth.{block-below}
-use Rattle.pools.proofs.Numbers.{block-some, shrink-number}
+use Rattle.pools.proofs.Numbers.{block-tier, shrink-number}
 use Rattle.image.specs.Numbers.{pathNo, ruleNo}
 use Rattle.image.specs.Image.{nodeOf}
 use Rattle.image.proofs.Paths.{path-low, path-child, rule-node}
 use Rattle.image.proofs.Trees.{children-are}
-use Rattle.image.proofs.Data.{data-are}
 use Rattle.image.proofs.Words.{bits-count, bits-zero, start-some}
 use Rattle.image.proofs.Blocks.{items-some}
 use Rattle.image.proofs.Bare.{emptied-le, last-rule, last-child, only-child}
 use Rattle.image.proofs.Descents.{level-there}
+use Rattle.image.proofs.Climbing.{last-child-is}
 use Rattle.image.proofs.Pruning.{prune-number}
 use Rattle.image.proofs.Trails.{Filled}
-use Rattle.history.proofs.Booked.{Booked, node-kind, cell-kind}
+use Rattle.history.proofs.Booked.{Booked, node-kind}
 use Rattle.history.proofs.Settling.{alike}
+use Rattle.history.proofs.Homes.{of-cells}
 
 -- the root never goes, whatever the flag
 root-ask : (i : ℕ) → i ≡ 0 → (p : Pool) (lim : ℕ) (f : List ℕ) (path : List MultiBitNode) (x y : Bool) → pruneAskOf i p lim f path x ≡ pruneAskOf i p lim f path y
@@ -94,10 +95,6 @@ module _ {N D : ℕ} {g : Ledger Cell} {s : State} {m : Memory} (b : Booked N D 
     pub own : b .R (ruleNo key len) ≡ true
     own = b .tree .rule-is key len prefix ∙ ap isSome stored
 
-    rules-there : items (b .R) home ≡ dataOn rs key len
-    rules-there =
-        data-are (b .proper) (b .tree) end (first (depth end) key) (omega (arith, prefix .short)) (path-low key end (prefix .bits) (omega (arith, prefix .short)))
-
     pub some-rule : 0 < items (b .R) home
     some-rule = subst (λ (n : ℕ). 0 < items (b .R) n) (rule-node key len) (let e = items-out (b .R) (ruleNo key len) own in omega arith)
 
@@ -105,19 +102,16 @@ module _ {N D : ℕ} {g : Ledger Cell} {s : State} {m : Memory} (b : Booked N D 
     unfolding cellMoves
     cell-moves = rw stored
 
-    of-cells : (P : Kind → ℕ → Account → Type 0) → P (cellPool D) (dataOn rs key len) (g .cells) → P (kindOf dataTop (s .cells)) (items (b .R) home) (accountOf (s .cells))
-    of-cells P p = alike P (cell-kind b) rules-there (b .cell-account) p
-
     pub cells-fit : Fits (kindOf dataTop (s .cells)) (fall (kindOf dataTop (s .cells)) (items (b .R) home)) (accountOf (s .cells))
-    cells-fit = of-cells (λ K c a. Fits K (fall K c) a)
+    cells-fit = of-cells b key len prefix (λ K c a. Fits K (fall K c) a)
         (subst (λ (ms : List Move). Fits (cellPool D) ms (g .cells)) cell-moves (remove-fits N D g (b .proper) (b .balanced) key len prefix old stored .1))
 
     pub cells-given : cellsOk ≡ true → supplied (kindOf dataTop (s .cells)) (fall (kindOf dataTop (s .cells)) (items (b .R) home)) (accountOf (s .cells)) ≡ true
-    cells-given e = of-cells (λ K c a. supplied K (fall K c) a ≡ true) (subst (λ (ms : List Move). supplied (cellPool D) ms (g .cells) ≡ true) cell-moves e)
+    cells-given e = of-cells b key len prefix (λ K c a. supplied K (fall K c) a ≡ true) (subst (λ (ms : List Move). supplied (cellPool D) ms (g .cells) ≡ true) cell-moves e)
 
     -- the account after it, too
     pub ledger-cells : run (kindOf dataTop (s .cells)) (fall (kindOf dataTop (s .cells)) (items (b .R) home)) (accountOf (s .cells)) ≡ run (cellPool D) (cellMoves D rs (del key len)) (g .cells)
-    ledger-cells = of-cells (λ K c a. run K (fall K c) a ≡ run (cellPool D) (cellMoves D rs (del key len)) (g .cells)) (ap (λ (ms : List Move). run (cellPool D) ms (g .cells)) (sym cell-moves))
+    ledger-cells = of-cells b key len prefix (λ K c a. run K (fall K c) a ≡ run (cellPool D) (cellMoves D rs (del key len)) (g .cells)) (ap (λ (ms : List Move). run (cellPool D) ms (g .cells)) (sym cell-moves))
 
     -- the block of its node lies below the mark
     block : b .vs home + blockFor dataTop (items (b .R) home) ≤ s .cells .mark
@@ -125,7 +119,7 @@ module _ {N D : ℕ} {g : Ledger Cell} {s : State} {m : Memory} (b : Booked N D 
 
     within : withinOf dataTop (s .cells .mark) (tierIn dataTop (items (b .R) home)) (b .vs home) ≡ 0
     unfolding withinOf
-    within = rw (le-leb _ (s .cells .mark) (subst (λ (x : ℕ). b .vs home + x ≤ s .cells .mark) (block-some dataTop (items (b .R) home) some-rule) block)) refl
+    within = rw (le-leb _ (s .cells .mark) (subst (λ (x : ℕ). b .vs home + x ≤ s .cells .mark) (block-tier dataTop (items (b .R) home) some-rule) block)) refl
 
     -- the number of the data block is the ledger's
     pub cells-number : dropAskOf (s .cells) (m .cell-free) homeNode ≡ cond cellsOk 0 4
@@ -134,7 +128,7 @@ module _ {N D : ℕ} {g : Ledger Cell} {s : State} {m : Memory} (b : Booked N D 
         rw (bits-count (b .R) home, start-some (items (b .R) home) (b .vs home) some-rule, within)
         (shrink-number dataTop (s .cells) (m .cell-free) (s .cells .mark) (coloured-stock dataTop (s .cells) (m .cell-free) (b .od) (b .image .values .blocks))
         (b .vs home) (items (b .R) home) some-rule block cells-fit
-        ∙ of-cells (λ K c a. numberOf K (fall K c) a ≡ cond cellsOk 0 4) (ap (λ (ms : List Move). numberOf (cellPool D) ms (g .cells)) (sym cell-moves)))
+        ∙ of-cells b key len prefix (λ K c a. numberOf K (fall K c) a ≡ cond cellsOk 0 4) (ap (λ (ms : List Move). numberOf (cellPool D) ms (g .cells)) (sym cell-moves)))
 
     -- ---- the node pool
 
@@ -180,8 +174,7 @@ module _ {N D : ℕ} {g : Ledger Cell} {s : State} {m : Memory} (b : Booked N D 
 
     child-test : (j : ℕ) → 0 < j → j < end → end < suc j + gone
         → lastChild (nodeOf (b .E) (b .R) (b .es) (b .vs) (pathNo key j)) ≡ ltb (end - j) gone
-    unfolding nodeOf
-    child-test j h k l = rw (bits-count (b .E) (pathNo key j), bits-zero (b .R) (pathNo key j)) (last-child (b .proper) (b .tree) key len old prefix stored j h k l)
+    child-test j h k l = last-child-is (b .E) (b .R) (b .es) (b .vs) (pathNo key j) ∙ last-child (b .proper) (b .tree) key len old prefix stored j h k l
 
     module _ (places : List ℕ) (path : List MultiBitNode) (walked : Filled (b .E) (b .R) (b .es) (b .vs) key (nodeCount rs key len) places path) where
       counted : nodeCount rs key len ≡ suc end

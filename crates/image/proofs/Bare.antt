@@ -24,10 +24,11 @@ use Rattle.rules.proofs.Live.{proper-edited}
 use Rattle.rules.proofs.NodeSet.{Fixed, node-fixed}
 use Rattle.rules.proofs.Paths.{count-root, path-node, count-path, count-live}
 use Rattle.rules.proofs.Adding.{Adds, adds-del, lives-true, lives-is, childless, dataless, data-more, children-off, children-more}
+use Rattle.rules.proofs.InUse.{depth-next}
 use Rattle.pools.specs.Items.{items}
 use Rattle.image.specs.Numbers.{pathNo}
 use Rattle.image.specs.Tree.{Tree}
-use Rattle.image.proofs.Paths.{next-depth, path-low}
+use Rattle.image.proofs.Paths.{path-low}
 use Rattle.image.proofs.Trees.{live-short, children-are}
 use Rattle.image.proofs.Data.{data-are}
 
@@ -131,7 +132,7 @@ module _ {Value : Type 0} {rs : Rules Value} {E D : ℕ → Bool} {val : ℕ →
   child-less j h g =
       children-on j (omega arith)
       ∙ children-more prefix adds (depth j) (omega arith)
-      (ap (λ (d : ℕ). node rest d (first d key)) (sym (next-depth j)) ∙ gone rs key len v prefix stored (suc j) g (omega arith))
+      (ap (λ (d : ℕ). node rest d (first d key)) (sym (depth-next j)) ∙ gone rs key len v prefix stored (suc j) g (omega arith))
 
   -- and the rules stay
   data-kept : (j : ℕ) → j < len / stride → items D (pathNo key j) ≡ dataCount rest (depth j) (first (depth j) key)

@@ -17,10 +17,10 @@ use Rattle.walk.specs.declared.Sight.the-variants.{Missing}
 use Rattle.walk.specs.Lookups.{ruleIn, better, counted}
 use Rattle.rules.specs.Rules.{Rules, valueAt, longest, IsPrefix}
 use Rattle.rules.specs.Nodes.{depth}
+use Rattle.rules.proofs.Always.{some-value}
 use Rattle.image.specs.Numbers.{pathNo}
 use Rattle.image.specs.Tree.{Tree}
 use Rattle.image.specs.Image.{nodeOf}
-use Rattle.image.proofs.Trees.{live-value}
 use Rattle.image.proofs.Answers.{Quiet, quiet-join, longest-quiet, longest-last}
 use Rattle.image.proofs.Sights.{sightOf, Sighted, rule-sight, Reach, held-level, held-live, held-none}
 
@@ -49,7 +49,7 @@ module _ {E D : ℕ → Bool} (es vs : ℕ → ℕ) {val : ℕ → Cell} {rs : R
   -- a length that the node holds, with its bit set, is such a rule
   pub shown : (j l b : ℕ) → Held (depth j) len l → b ≡ dataBit key l → has (at j .«data_bitmap») b ≡ true → Shown j l b
   shown j l b h e t =
-      let live = live-value (valueAt rs key l) (sym (held-live es vs tree key len pre j l h) ∙ ap (has (at j .«data_bitmap»)) (sym e) ∙ t) in
+      let live = some-value (valueAt rs key l) (sym (held-live es vs tree key len pre j l h) ∙ ap (has (at j .«data_bitmap»)) (sym e) ∙ t) in
       record {
         value = live .0;
         alive = live .1;

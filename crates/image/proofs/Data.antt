@@ -20,11 +20,12 @@ use Rattle.rules.specs.Rules.{Rules, isLive, valueAt, IsPrefix, Proper}
 use Rattle.rules.specs.Nodes.{depth, dataCount}
 use Rattle.rules.proofs.Sums.{sum-same}
 use Rattle.rules.proofs.Levels.{keyOf, first-key, atLevel, data-levels}
+use Rattle.rules.proofs.Always.{some-value}
 use Rattle.pools.specs.Items.{items}
 use Rattle.image.specs.Numbers.{nodeNo, pathNo, ruleNo}
 use Rattle.image.specs.Tree.{Tree}
 use Rattle.image.proofs.Paths.{node-inj, path-low}
-use Rattle.image.proofs.Trees.{live-value, live-short, tree-shape}
+use Rattle.image.proofs.Trees.{live-short, tree-shape}
 
 -- ---- a sum over data bits, level by level
 
@@ -94,7 +95,7 @@ module _ {Value : Type 0} {rs : Rules Value} {E D : ℕ → Bool} {val : ℕ →
           key = keyOf (b * 2 ^ i + p) (depth j + i)
 
           dead : isLive rs key (depth j + i) ≡ true → ⊥
-          dead e = let v = live-value (valueAt rs key (depth j + i)) e in h (live-short rs proper key (depth j + i) (v .0) (v .1))
+          dead e = let v = some-value (valueAt rs key (depth j + i)) e in h (live-short rs proper key (depth j + i) (v .0) (v .1))
 
           absent : D (32 * nodeNo (depth j) b + ((2 ^ i - 1) + p)) ≡ true → ⊥
           absent e =

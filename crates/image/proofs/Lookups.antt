@@ -25,12 +25,12 @@ use Rattle.walk.proofs.Turns.{left, longest-root, longest-end, longest-down, sh
 use Rattle.rules.specs.Rules.{Rules, valueAt, isSome, nothing, told, exact, longest, shortest, IsPrefix, Proper}
 use Rattle.rules.specs.Nodes.{depth, nodeCount, countTo, shortestCount}
 use Rattle.rules.proofs.Paths.{count-root, shortest-count}
+use Rattle.rules.proofs.InUse.{depth-next}
 use Rattle.pools.specs.Items.{placeOf}
 use Rattle.pools.specs.Sound.{Owner}
 use Rattle.image.specs.Numbers.{pathNo}
 use Rattle.image.specs.Tree.{Tree}
 use Rattle.image.specs.Image.{Image, nodeOf}
-use Rattle.image.proofs.Paths.{next-depth}
 use Rattle.image.proofs.Walks.{node-whole, mark-some}
 use Rattle.image.proofs.Descents.{from-last, level-le, walk-root, walk-stands, walk-node, walk-end, walk-down}
 use Rattle.image.proofs.Answers.{Quiet, quiet-join, shortest-quiet, shortest-first, exact-none, exact-own}
@@ -97,7 +97,7 @@ module _ {p : Pool} {nodes nf : List ℕ} {q : Pool} {cells cf : List ℕ} {E D 
             let h : j < N = omega arith in
             subst (Sighted E D es vs key (longest rs key len) N)
             (longest-down nodes key (walk-stands image tree key len pre j h) (walk-node image tree key len pre j h) (whole j) best refl refl refl (place (suc j)) (walk-down image tree key len pre j l))
-            (subst (Longest (suc j) (place (suc j))) (next-depth j) ih _ (with-node j (depth (suc j)) h (reach-down rs key len pre j l) best w))
+            (subst (Longest (suc j) (place (suc j))) (depth-next j) ih _ (with-node j (depth (suc j)) h (reach-down rs key len pre j l) best w))
 
     -- ---- shortest
 
@@ -151,7 +151,7 @@ module _ {p : Pool} {nodes nf : List ℕ} {q : Pool} {cells cf : List ℕ} {E D 
             turn j h (λ f w q.
             subst (Sighted E D es vs key (shortest rs key len) (shortestCount rs key len))
             (shortest-down nodes key (walk-stands image tree key len pre j h) (walk-node image tree key len pre j h) (whole j) refl refl f refl (place (suc j)) (walk-down image tree key len pre j l))
-            (subst (Shortest (suc j) (place (suc j))) (next-depth j) ih
+            (subst (Shortest (suc j) (place (suc j))) (depth-next j) ih
             (quiet-join rs key 0 (depth j) (depth (suc j)) q (quiet-node es vs tree key len pre j (depth (suc j)) (reach-down rs key len pre j l) w))))
 
     -- ---- exact
@@ -197,4 +197,4 @@ module _ {p : Pool} {nodes nf : List ℕ} {q : Pool} {cells cf : List ℕ} {E D 
             let h : j < N = omega arith in
             subst (Sighted E D es vs key (exact rs key len) N)
             (exact-down nodes key (walk-stands image tree key len pre j h) (walk-node image tree key len pre j h) (whole j) refl refl (place (suc j)) (walk-down image tree key len pre j l))
-            (subst (Exact (place (suc j))) (next-depth j) ih)
+            (subst (Exact (place (suc j))) (depth-next j) ih)

@@ -22,6 +22,7 @@ use Rattle.rules.specs.Account.{Kind, nodePool, Account, Move, takes, run}
 use Rattle.rules.specs.Ledger.{rise, times, nodesCome}
 use Rattle.rules.proofs.Supply.{node-tiered, run-append}
 use Rattle.rules.proofs.Returns.{Fits}
+use Rattle.rules.proofs.InUse.{depth-next}
 use Rattle.pools.specs.Items.{upd, items, placeOf}
 use Rattle.pools.specs.Sound.{Owner}
 use Rattle.pools.specs.Accounts.{kindOf, accountOf, supplied}
@@ -30,7 +31,7 @@ use Rattle.pools.proofs.Accounts.{supplied-append, fits-front, fits-back}
 use Rattle.image.specs.Numbers.{pathNo, withPath}
 use Rattle.image.specs.Tree.{Shape}
 use Rattle.image.specs.Image.{nodeOf, Image}
-use Rattle.image.proofs.Paths.{next-depth, path-child, path-up, path-far, path-differ}
+use Rattle.image.proofs.Paths.{path-child, path-up, path-far, path-differ}
 use Rattle.image.proofs.Chains.{with-path}
 use Rattle.image.proofs.Changes.{blank, no-items}
 use Rattle.image.proofs.Adding.{bornOf, make-born, make-next, born-image, born-account, born-size}
@@ -146,7 +147,7 @@ module _ (q : Pool) (cells cf : List ℕ) (D : ℕ → Bool) (vs : ℕ → ℕ) 
       (fits-more (p .size) c n (accountOf p) (y .0 .pool .size) (items E′ x) (accountOf (y .0 .pool)) (z .5) empty (z .4) f)
       (y .0 .at) emptyNode (z .3) (sym (blank E′ D (z .0) vs x empty (none .1))) in
       let k : i + suc (suc n) ≡ suc i + suc n = omega arith in
-      rw (a, b, make-next p nodes nf (placeOf E es (pathNo key i)) (depth i) key n (nodeOf E D es vs (pathNo key i)), ← next-depth i, k)
+      rw (a, b, make-next p nodes nf (placeOf E es (pathNo key i)) (depth i) key n (nodeOf E D es vs (pathNo key i)), ← depth-next i, k)
       (r .0, r .1, r .2, r .3, r .4 ∙ run-more (p .size) c n (accountOf p) (y .0 .pool .size) (items E′ x) (accountOf (y .0 .pool)) (z .5) empty (z .4), r .5 ∙ z .5)
 
   -- so all

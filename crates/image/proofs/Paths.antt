@@ -13,17 +13,14 @@ use Rattle.places.proofs.Prefixes.{data-lt, data-of, data-same}
 use Rattle.places.proofs.Children.{child-lt, child-split}
 use Rattle.rules.specs.Rules.{IsPrefix}
 use Rattle.rules.specs.Nodes.{depth}
+use Rattle.rules.proofs.InUse.{depth-next}
 use Rattle.image.specs.Numbers.{nodeNo, pathNo, ruleNo}
 
 -- ---- nodes
 
--- one level down, five bits more
-pub next-depth : (j : ℕ) → depth (suc j) ≡ depth j + stride
-next-depth j = omega arith
-
 -- and 32 times as many nodes
 pub next-power : (j : ℕ) → 2 ^ depth (suc j) ≡ 32 * 2 ^ depth j
-next-power j = ap (λ (d : ℕ). 2 ^ d) (next-depth j) ∙ pow-add 2 (depth j) stride ∙ (omega arith)
+next-power j = ap (λ (d : ℕ). 2 ^ d) (depth-next j) ∙ pow-add 2 (depth j) stride ∙ (omega arith)
 
 -- a level's nodes come before those of each lower level
 node-before : (i j b : ℕ) → i < j → b < 2 ^ depth i → nodeNo (depth i) b < 2 ^ depth j
@@ -58,7 +55,7 @@ path-root key h = ap (λ (x : ℕ). 1 + x) (first-none h)
 pub path-child : (key j : ℕ) → j ≤ 5 → pathNo key (suc j) ≡ 32 * pathNo key j + childBit (depth j) key
 path-child key j h =
     let e : first (depth (suc j)) key ≡ first (depth j) key * 32 + childBit (depth j) key =
-    ap (λ (d : ℕ). first d key) (next-depth j) ∙ child-split (depth j) key (omega arith) in
+    ap (λ (d : ℕ). first d key) (depth-next j) ∙ child-split (depth j) key (omega arith) in
     omega (arith, next-power j)
 
 -- so each node of it hangs on the one before

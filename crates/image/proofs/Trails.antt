@@ -18,12 +18,12 @@ use Rattle.walk.proofs.Turns.{left, trail-root, trail-end, trail-down}
 use Rattle.rules.specs.Rules.{Rules, IsPrefix, Proper}
 use Rattle.rules.specs.Nodes.{depth, nodeCount}
 use Rattle.rules.proofs.Paths.{count-root}
+use Rattle.rules.proofs.InUse.{depth-next}
 use Rattle.pools.specs.Items.{placeOf}
 use Rattle.pools.specs.Sound.{Owner}
 use Rattle.image.specs.Numbers.{pathNo}
 use Rattle.image.specs.Tree.{Tree}
 use Rattle.image.specs.Image.{Image, nodeOf}
-use Rattle.image.proofs.Paths.{next-depth}
 use Rattle.image.proofs.Walks.{node-whole, mark-some}
 use Rattle.image.proofs.Descents.{from-last, level-le, walk-root, walk-stands, walk-node, walk-end, walk-down}
 
@@ -90,7 +90,7 @@ module _ {p : Pool} {nodes nf : List ℕ} {q : Pool} {cells cf : List ℕ} {E D 
         let i : j ≡ depth j / stride = omega arith in
         subst (Walked E D es vs key N)
         (trail-down nodes key (walk-stands image tree key len pre j h) (walk-node image tree key len pre j h) (sym (node-whole image (pathNo key j))) ps xs i refl refl _ (walk-down image tree key len pre j l))
-        (subst (λ (d : ℕ). From (placeOf E es (pathNo key (suc j))) d (suc j)) (next-depth j) ih _ _ (filled j h f))
+        (subst (λ (d : ℕ). From (placeOf E es (pathNo key (suc j))) d (suc j)) (depth-next j) ih _ _ (filled j h f))
 
     -- the trail of an edit holds the path's nodes with their places, as many as the node count says
     pub trail-is : Walked E D es vs key (nodeCount rs key len) (trailOf nodes (p .mark) key len)

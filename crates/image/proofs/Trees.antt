@@ -2,7 +2,7 @@
 use mathlib.Core.Path.{_≡_, refl, sym, ap, _∙_}
 use mathlib.Core.Logic.{inr}
 use mathlib.Core.Bool.{Bool, true, false, _||_, false≢true}
-use mathlib.Core.Option.{Option, none, some, Option·none-ne-some}
+use mathlib.Core.Option.{some, Option·none-ne-some}
 use mathlib.Core.List.{[]}
 use Prim.Native.Nat.{ℕ, zero, suc, _+_, _*_, _/_, _%_, _^_, _≤_, _<_}
 use native.Mathlib.Nat.{le-refl}
@@ -16,15 +16,17 @@ use Rattle.prefix.specs.Prefix.{width, first}
 use Rattle.prefix.proofs.Covering.{fails}
 use Rattle.tiers.specs.Tiers.{stride}
 use Rattle.places.proofs.Prefixes.{data-lt}
-use Rattle.rules.specs.Rules.{Rules, valueAt, isSome, IsPrefix, Proper}
+use Rattle.rules.specs.Rules.{Rules, valueAt, IsPrefix, Proper}
 use Rattle.rules.specs.Nodes.{depth, passed, node, childCount}
 use Rattle.rules.proofs.Tests.{clash}
 use Rattle.rules.proofs.Sums.{sum-same}
 use Rattle.rules.proofs.NodeSet.{Fixed, node-fixed, live-node, node-root, node-parent, node-deep}
+use Rattle.rules.proofs.Always.{some-value}
+use Rattle.rules.proofs.InUse.{depth-next}
 use Rattle.pools.specs.Items.{items}
 use Rattle.image.specs.Numbers.{nodeNo, pathNo, ruleNo}
 use Rattle.image.specs.Tree.{Shape, Tree}
-use Rattle.image.proofs.Paths.{next-depth, next-power, node-inj, path-low, rule-node}
+use Rattle.image.proofs.Paths.{next-power, node-inj, path-low, rule-node}
 
 -- ---- numbers of children
 
@@ -42,11 +44,6 @@ node-far j b = omega (arith, next-power j, pow-pos (depth j))
 
 module _ {Value : Type 0} where
   -- ---- live rules
-
-  -- a live rule has a value
-  pub live-value : (o : Option Value) → isSome o ≡ true → (v : Value) × (o ≡ some v)
-  live-value none e = absurd (false≢true e)
-  live-value (some v) e = (v, refl)
 
   -- and its length is at most 32
   pub live-short : (rs : Rules Value) → Proper rs → (k l : ℕ) (v : Value) → valueAt rs k l ≡ some v → l ≤ width
@@ -86,7 +83,7 @@ module _ {Value : Type 0} where
 
     -- a rule that is there is live
     pub rule-live : (key len : ℕ) → IsPrefix key len → D (ruleNo key len) ≡ true → (v : Value) × (valueAt rs key len ≡ some v)
-    rule-live key len prefix e = live-value (valueAt rs key len) (sym (tree .rule-is key len prefix) ∙ e)
+    rule-live key len prefix e = some-value (valueAt rs key len) (sym (tree .rule-is key len prefix) ∙ e)
 
   module _ {rs : Rules Value} {E D : ℕ → Bool} {val : ℕ → Value} (proper : Proper rs) (tree : Tree rs E D val) where
     -- a node of any level is there or not as the live rules say: none is deeper than level 6
@@ -109,7 +106,7 @@ module _ {Value : Type 0} where
       where
         child : (c : ℕ) → c < 32 → E (32 * nodeNo (depth j) b + c) ≡ node rs (depth j + stride) (b * 2 ^ stride + c)
         child c hc =
-            ap E (child-number j b c) ∙ tree-node (suc j) (b * 32 + c) (child-low j b c hb hc) ∙ ap (λ (d : ℕ). node rs d (b * 32 + c)) (next-depth j)
+            ap E (child-number j b c) ∙ tree-node (suc j) (b * 32 + c) (child-low j b c hb hc) ∙ ap (λ (d : ℕ). node rs d (b * 32 + c)) (depth-next j)
 
     -- every tree has its shape
     pub tree-shape : Shape E D
@@ -131,7 +128,7 @@ module _ {Value : Type 0} where
             let q : x / 32 ≡ nodeNo (depth j) (b / 32) = omega (arith, next-power j) in
             let s : b ≡ b / 32 * 32 + b % 32 = omega arith in
             let n : node rs (depth (suc j)) b ≡ true = sym (tree .node-is (suc j) b hj hb) ∙ ap E (sym e) ∙ t in
-            let m : node rs (depth j + stride) (b / 32 * 2 ^ stride + b % 32) ≡ true = rw (next-depth j, s) at n in
+            let m : node rs (depth j + stride) (b / 32 * 2 ^ stride + b % 32) ≡ true = rw (depth-next j, s) at n in
             ap E q ∙ tree .node-is j (b / 32) (omega arith) (omega (arith, next-power j)) ∙ node-parent rs (depth j) (b / 32) (b % 32) (omega arith) (omega arith) m
 
         holder : (x key len : ℕ) → IsPrefix key len → x ≡ ruleNo key len → D x ≡ true → E (x / 32) ≡ true

@@ -27,6 +27,7 @@ use Rattle.pools.specs.Sound.{cellsOf, blockFor, Owner, kept, Coloured, 
 use Rattle.pools.specs.Accounts.{kindOf, accountOf, supplied}
 use Rattle.pools.proofs.Items.{upd-same, upd-other, among-strict, parts, slot-lt}
 use Rattle.pools.proofs.Rows.{Swaps, rise-ways, take-supplied, up-swaps}
+use Rattle.pools.proofs.Numbers.{block-tier}
 use Rattle.pools.proofs.Colours.{paint, paint-in, paint-off, kept-one, kept-below, take-coloured}
 use Rattle.pools.proofs.Moving.{outside, not-of, ranges-apart, Moved, move-coloured}
 use Rattle.pools.proofs.Gains.{gain-sound}
@@ -50,15 +51,10 @@ unfolding spacingOf
 block-holds top zero h = omega arith
 block-holds top (suc c) h = tier-room 1 (2 ∷ 4 ∷ 8 ∷ 16 ∷ 24 ∷ top ∷ []) (suc c) h
 
--- the block of a count that isn't 0 is one of its tier
-pub block-tier : (top c : ℕ) → 0 < c → blockFor top c ≡ cellsOf top (tierIn top c)
-block-tier top zero h = absurd (omega arith)
-block-tier top (suc c) h = refl
-
 -- a block with a place is that of a count which isn't 0
-pub block-some : (top c i : ℕ) → i < blockFor top c → 0 < c
-block-some top zero i h = absurd (omega arith)
-block-some top (suc c) i h = omega arith
+pub owner-some : (top c i : ℕ) → i < blockFor top c → 0 < c
+owner-some top zero i h = absurd (omega arith)
+owner-some top (suc c) i h = omega arith
 
 -- items of one owner that stand in one slot are one
 among-one : (K : ℕ → Bool) (a i j : ℕ) → K (a + i) ≡ true → K (a + j) ≡ true → among K a i ≡ among K a j → i ≡ j
@@ -132,7 +128,7 @@ module _ {A : Type 0} {top : ℕ} {p : Pool} {l : List ℕ} {mem : ℕ → A} {K
 
   -- the old block is the owner's
   old-kept : (i : ℕ) → i < blockFor top count → own (old + i) ≡ kept (x / 32)
-  old-kept i h = rw (there (block-some top count i h)) (s .mine (x / 32) i h)
+  old-kept i h = rw (there (owner-some top count i h)) (s .mine (x / 32) i h)
 
   -- it holds the count
   old-holds : count ≤ blockFor top count

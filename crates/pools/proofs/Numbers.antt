@@ -31,9 +31,9 @@ use Rattle.pools.proofs.Rows.{Swaps, rise-ways, fall-ways, take-supplie
 use Rattle.pools.proofs.Accounts.{number-append, fits-front, take-size, grow-size, take-account, room-here, room-after, grow-account}
 
 -- the block of some items is one of their tier
-pub block-some : (top c : ℕ) → 0 < c → blockFor top c ≡ cellsOf top (tierIn top c)
-block-some top zero h = absurd (not-suc-le-zero h)
-block-some top (suc c) h = refl
+pub block-tier : (top c : ℕ) → 0 < c → blockFor top c ≡ cellsOf top (tierIn top c)
+block-tier top zero h = absurd (not-suc-le-zero h)
+block-tier top (suc c) h = refl
 
 -- a block that lies below the mark as found is no fault
 within-none : (top lim t s : ℕ) → s + cellsOf top t ≤ lim → withinOf top lim t s ≡ 0
@@ -121,7 +121,7 @@ module _ (top : ℕ) (p : Pool) (l : List ℕ) (lim : ℕ) (stock : Stock top p 
   module _ (old c : ℕ) (below : 0 < c → old + blockFor top c ≤ lim) where
     -- so is the block of its tier
     held : 0 < c → old + cellsOf top (tierIn top c) ≤ lim
-    held h = rw (block-some top c h) at (below h)
+    held h = rw (block-tier top c h) at (below h)
 
     -- a single one
     held-single : 0 < c → leb c 1 ≡ true → old + cellsOf top 0 ≤ lim

@@ -26,7 +26,8 @@ use Rattle.pools.proofs.Rows.{Swaps, fall-ways, down-swaps}
 use Rattle.pools.proofs.Accounts.{room-here}
 use Rattle.pools.proofs.Colours.{paint, paint-off, give-coloured}
 use Rattle.pools.proofs.Moving.{not-of, ranges-apart, Moved, move-coloured}
-use Rattle.pools.proofs.Growth.{block-holds, block-tier, block-below}
+use Rattle.pools.proofs.Growth.{block-holds, block-below}
+use Rattle.pools.proofs.Numbers.{block-tier}
 use Rattle.pools.proofs.Losses.{loss-sound}
 
 module _ {A : Type 0} {top : ℕ} {p : Pool} {l : List ℕ} {mem : ℕ → A} {K : ℕ → Bool} {st : ℕ → ℕ} {val : ℕ → A} {own : ℕ → Owner}

@@ -21,7 +21,7 @@ use Rattle.rules.proofs.Balance.{Kept, nodes-all, cells-all, put-kept, 
 
 module _ {Value : Type 0} where
   -- where there is a value, it is found
-  some-value : (o : Option Value) → isSome o ≡ true → (v : Value) × (o ≡ some v)
+  pub some-value : (o : Option Value) → isSome o ≡ true → (v : Value) × (o ≡ some v)
   some-value none e = absurd (false≢true e)
   some-value (some v) e = (v, refl)
 

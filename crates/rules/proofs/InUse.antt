@@ -52,7 +52,7 @@ over-part f g k j hk hj =
       sum-part depths j (λ i. sum (2 ^ depth i) (λ b. f (g (depth i) b))) hj,
     )
 
-depth-next : (j : ℕ) → depth (suc j) ≡ depth j + stride
+pub depth-next : (j : ℕ) → depth (suc j) ≡ depth j + stride
 depth-next j = omega arith
 
 module _ {Value : Type 0} {k l : ℕ} {rs rs′ : Rules Value} (prefix : IsPrefix k l) (proper : Proper rs) (adds : Adds k l rs rs′) (f : ℕ → ℕ) where
