@@ -1,5 +1,7 @@
 // The bench program: records from standard input, answers to standard output, over pools of 1,024 nodes and 2,048 cells.
 // A short read is no short tail: input is read until the buffer is full or the input ends.
+#![tactic(auto)]
+
 use libc::{STDIN_FILENO, STDOUT_FILENO};
 use map::State;
 

@@ -1,5 +1,7 @@
 // Bits of a bitmap, and the slot of a bit: how many set bits stand below it.
 // What a bit is, and what each answer means, is said once in specs/Bits.antt.
+#![tactic(auto)]
+
 ghost use Rattle.std.specs.Prelude.{◌≡◌, ◌<◌};
 ghost use Rattle.bits.specs.Bits.{has, set_below, count, with_bit, without_bit, Highest, Lowest};
 

@@ -1,6 +1,8 @@
 // The blocks of a pool: sizes, issued mark and free counts by value, the free list lent.
 // `ask`, `room` and the `.._ask` settle the number (0, 4 or 5); `take`, `give`, `grow` and `shrink` do it.
 // `top` is the kind of pool (DataPool::WIDEST or ChildPool::WIDEST), `lim` the issued mark as the edit found it.
+#![tactic(auto)]
+
 mod growth;
 mod limits;
 mod taking;
@@ -11,7 +13,7 @@ ghost use Rattle.blocks.specs.Growth.{stays_of, fits_of};
 
 use tiers::{spacing_of, tier_of, wide};
 
-#[derive(Drop)]
+#[derive(Clone, Copy)]
 pub struct Pool {
     pub size: u32,
     pub mark: u32,
@@ -19,14 +21,14 @@ pub struct Pool {
 }
 
 // A block that was taken, and the pool after.
-#[derive(Drop)]
+#[derive(Clone, Copy)]
 pub struct Block {
     pub start: u32,
     pub pool: Pool,
 }
 
 // A number of document 01, and the pool after where it is 0.
-#[derive(Drop)]
+#[derive(Clone, Copy)]
 pub struct Asked {
     pub number: u32,
     pub pool: Pool,

@@ -1,5 +1,7 @@
 // The map for C and Rust to link: the six calls as exported functions over numbers, slices and structs of numbers.
 // Nothing is decided here: each call converts the state, calls the map and converts what it gives. include/cabinet.h tells C the same.
+#![tactic(auto)]
+
 mod convert;
 
 ghost use Rattle.std.specs.Prelude.{◌≡◌};
@@ -16,7 +18,7 @@ use map::State;
 
 // The map's state, its two pools side by side: sizes, issued marks, free counts by tier; and the rule count.
 #[repr(C)]
-#[derive(Drop)]
+#[derive(Clone, Copy)]
 pub struct CabinetState {
     pub node_size: u32,
     pub node_mark: u32,
@@ -29,7 +31,7 @@ pub struct CabinetState {
 
 // An answer: document 01's number and values, 0 where it gives none.
 #[repr(C)]
-#[derive(Drop)]
+#[derive(Clone, Copy)]
 pub struct CabinetAnswer {
     pub number: u32,
     pub len: u32,
@@ -40,7 +42,7 @@ pub struct CabinetAnswer {
 
 // What an edit gives: the state to hand to the next call, and the answer.
 #[repr(C)]
-#[derive(Drop)]
+#[derive(Clone, Copy)]
 pub struct CabinetEdit {
     pub state: CabinetState,
     pub answer: CabinetAnswer,

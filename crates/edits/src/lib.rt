@@ -1,5 +1,7 @@
 // What edits write, once their numbers are settled, and what a removal asks: over pools by value and lent slices, with no state.
 // Every node handed in is as the walk read it, before the first write.
+#![tactic(auto)]
+
 mod adding;
 mod removing;
 
@@ -13,7 +15,7 @@ pub use removing::{drop_ask, drop_rule, last_rule, prune, prune_ask};
 use tiers::{CellAt, NodeAt};
 
 // The lowest node that was made, and the pool after.
-#[derive(Drop)]
+#[derive(Clone, Copy)]
 pub struct Made {
     pub at: usize,
     pub pool: Pool,

@@ -67,7 +67,7 @@ pub fn last_rule(x: MultiBitNode) -> bool
 }
 
 // What one parent on the way up answers: the number, the pool after, whether it is left empty in its turn, whether it gave back a single node.
-#[derive(Drop)]
+#[derive(Clone, Copy)]
 pub struct UpAsked {
     pub number: u32,
     pub pool: Pool,

@@ -1,4 +1,6 @@
 // What stands before every call: number 3, number 1 and the first step's 5; and what a fresh start writes.
+#![tactic(auto)]
+
 ghost use Rattle.std.specs.Prelude.{◌≡◌};
 ghost use Rattle.entry.specs.First.{lookup_shaped, edit_shaped, sane_state, lookup_first, edit_first};
 ghost use Rattle.entry.specs.Fresh.{empty_nodes, zeros, pool_as};

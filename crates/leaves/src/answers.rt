@@ -1,7 +1,7 @@
 // What an answer is, and those of slots and tiers.
 use tiers::{ChildPool, DataPool};
 
-#[derive(Drop)]
+#[derive(Clone, Copy)]
 pub struct Answer {
     pub kind: u32,
     pub x: u32,

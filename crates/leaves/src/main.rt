@@ -1,6 +1,8 @@
 // Answers requests on the leaves, so that each can be held beside the crate's own function.
 // A request is five big-endian numbers of 32 bits: which function, and its four inputs.
 // An answer is three: 0 one number, 1 two numbers, 2 nothing, 3 outside the function's inputs; then the numbers.
+#![tactic(auto)]
+
 mod answers;
 mod node_answers;
 mod order_answers;

@@ -1,5 +1,7 @@
 // The map: six calls over memory that the caller lends, total on any key, length and memory.
 // Each call's promise is one equation: its answer, the state and every lent slice afterwards are those of a definition in specs/.
+#![tactic(auto)]
+
 mod fresh;
 mod inserts;
 mod lookups;
@@ -9,7 +11,7 @@ mod removals;
 use blocks::Pool;
 
 // Issued marks, free counts and pool sizes, and the rule count: each edit takes it by value and hands the new one back.
-#[derive(Drop)]
+#[derive(Clone, Copy)]
 pub struct State {
     pub nodes: Pool,
     pub cells: Pool,
@@ -17,7 +19,7 @@ pub struct State {
 }
 
 // What a call answers. specs/Answers.antt gives document 01's number and values for each.
-#[derive(Drop)]
+#[derive(Clone, Copy)]
 pub enum Answer {
     Started,
     Added(u32, u32),
@@ -31,7 +33,7 @@ pub enum Answer {
     Broken,
 }
 
-#[derive(Drop)]
+#[derive(Clone, Copy)]
 pub struct Edited {
     pub answer: Answer,
     pub state: State,

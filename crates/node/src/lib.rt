@@ -1,5 +1,7 @@
 // A node by value: two bitmaps and two block starts. Its bits set, unset and asked; matches and covers in it.
 // What a mask and a match mean is said by prefixes, in specs/Masks.antt and specs/Matches.antt.
+#![tactic(auto)]
+
 ghost use Rattle.std.specs.Prelude.{◌≡◌, ◌<◌};
 ghost use Rattle.std.specs.Int.Bits.{bit_and};
 ghost use Rattle.bits.specs.Bits.{has, count, set_below};
@@ -10,7 +12,7 @@ ghost use Rattle.node.specs.Matches.{longest_in, shortest_in};
 
 use tiers::{CellAt, ChildPool, NodeAt};
 
-#[derive(Drop)]
+#[derive(Clone, Copy)]
 pub struct MultiBitNode {
     pub data_bitmap: u32,
     pub child_bitmap: u32,
@@ -19,7 +21,7 @@ pub struct MultiBitNode {
 }
 
 // What a match in a node finds: the data bit of a stored rule, or nothing.
-#[derive(Drop)]
+#[derive(Clone, Copy)]
 pub enum Found {
     At(u32),
     Nothing,

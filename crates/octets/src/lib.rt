@@ -1,4 +1,6 @@
 // Numbers of 32 bits in lent bytes, big-endian.
+#![tactic(auto)]
+
 ghost use Rattle.std.specs.Prelude.{◌≡◌, ◌+◌, ◌≤◌, ◌<◌, ◌^◌, length};
 ghost use Rattle.octets.specs.Octets.{word_in, bytes_of, written};
 

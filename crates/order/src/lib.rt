@@ -1,5 +1,7 @@
 // The order of what a node holds, by masked key, then length, as tables; and the keys that a node's bits stand for.
 // The rule of the tables is in specs/Order.antt. A listing walks them.
+#![tactic(auto)]
+
 ghost use Rattle.std.specs.Prelude.{◌≡◌, ◌<◌, ◌≤◌};
 ghost use Rattle.prefix.specs.Prefix.{width};
 ghost use Rattle.places.specs.Places.{length_at, key_at, child_key};
@@ -9,21 +11,21 @@ use prefix::Prefix;
 use tiers::ChildPool;
 
 // What a node holds at a place of the order: a rule's data bit, or a child's bit.
-#[derive(Drop)]
+#[derive(Clone, Copy)]
 pub enum LexElem {
     Data(u32),
     Child(u32),
 }
 
 // The data bits and the child bits of a part of the order.
-#[derive(Drop)]
+#[derive(Clone, Copy)]
 pub struct LexMasks {
     pub data_mask: u32,
     pub child_mask: u32,
 }
 
 // A data bit's path, filled up with zeros to four bits, and its level.
-#[derive(Drop)]
+#[derive(Clone, Copy)]
 pub struct BitPrefix {
     pub offset: u32,
     pub level: u32,

@@ -1,5 +1,7 @@
 // The three patterns of a node as one table: ancestors (longest match), descendants (cover), children below.
 // Entry 16 * level + place of each: the rule, by covering, is in specs/Patterns.antt and is proved once for the whole table.
+#![tactic(auto)]
+
 ghost use Rattle.std.specs.Prelude.{◌≡◌, ◌<◌};
 ghost use Rattle.bits.specs.Bits.{word};
 ghost use Rattle.patterns.specs.Patterns.{is_ancestor, is_descendant, is_child_below, pattern_at};

@@ -1,5 +1,7 @@
 // Where a prefix stands in the tree: the depth of its node, its level there, its data bit; and the way back.
 // Nodes stand at depths 0, 5, .. 30. specs/Places.antt says which prefix a bit stands for, at every depth.
+#![tactic(auto)]
+
 ghost use Rattle.std.specs.Prelude.{◌≡◌, ◌<◌, ◌≤◌, ◌+◌};
 ghost use Rattle.prefix.specs.Prefix.{width};
 ghost use Rattle.tiers.specs.Tiers.{stride};

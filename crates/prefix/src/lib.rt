@@ -1,9 +1,11 @@
 // A prefix: a 32-bit key and a length. Only the first `length` bits count.
 // Masking, covering and order are said once in specs/Prefix.antt.
+#![tactic(auto)]
+
 ghost use Rattle.std.specs.Prelude.{◌≡◌, ◌≤◌};
 ghost use Rattle.prefix.specs.Prefix.{width, masked};
 
-#[derive(Drop)]
+#[derive(Clone, Copy)]
 pub struct Prefix {
     pub key: u32,
     pub len: u32,

@@ -1,5 +1,7 @@
 // The readings of document 01 that are marked as the small proved set: one list of inputs and results.
 // The list stands in specs/Starred.antt; the one statement that proves it in proofs/Starred.antt.
+#![tactic(auto)]
+
 mod small;
 
 ghost use Rattle.std.specs.Prelude.{◌≡◌};
@@ -8,7 +10,7 @@ ghost use Rattle.readings.specs.Reading.{reading_of};
 use tiers::{ChildPool, DataPool};
 
 // What is asked.
-#[derive(Drop)]
+#[derive(Clone, Copy)]
 pub enum Input {
     DataBit { key: u32, len: u32 },
     LpmMask { depth: u32, key: u32, len: u32 },
@@ -21,7 +23,7 @@ pub enum Input {
 }
 
 // What it gives: a number, what the map says, or nothing where the input is outside the function's.
-#[derive(Drop)]
+#[derive(Clone, Copy)]
 pub enum Reading {
     Number(usize),
     Said {

@@ -1,6 +1,8 @@
 // Items in lent words: a cell is one word, a node four; and how items move when a block grows or shrinks.
 // A block's start is a plain number here: the callers hand in the number of a NodeAt or a CellAt.
 // Past the end of a slice a read gives 0 and a write does nothing, so that no position needs a test beforehand.
+#![tactic(auto)]
+
 ghost use Rattle.std.specs.Prelude.{◌≡◌, ◌+◌, ◌-◌, ◌*◌, ◌<◌, ◌≤◌, ◌^◌, cond, length, get_or, set};
 ghost use Rattle.store.specs.Words.{cell_at, save_cell, node_at, save_node, move_cell, move_node};
 ghost use Rattle.store.specs.Moves.{run_of, lift_of, open_of, close_of, widen_cells, narrow_cells, widen_nodes, narrow_nodes};
@@ -10,7 +12,7 @@ use tiers::{CellAt, NodeAt, wide};
 use words::{put, read};
 
 // What a data cell holds.
-#[derive(Drop)]
+#[derive(Clone, Copy)]
 pub struct Cell {
     pub value: u32,
 }

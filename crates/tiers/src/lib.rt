@@ -1,5 +1,7 @@
 // The two kinds of pool and their blocks: stride, spacings, the tier of a count, the sections of a free list.
 // A node position can't be passed where a cell position is meant: each pool's block starts have a type of their own.
+#![tactic(auto)]
+
 ghost use Rattle.std.specs.Prelude.{◌≡◌, Bool, ◌&&◌, ℕ, ◌^◌, ◌<◌, leb, eqb};
 ghost use Rattle.tiers.specs.Tiers.{spacings, data_spacings, child_spacings, spacing_of, tier_of, section_start, section_length, free_list_length, pool_max, empty};
 
@@ -10,11 +12,11 @@ pub const POOL_MAX: u32 = 65_536;
 pub const EMPTY: u32 = 4_294_967_295;
 
 // Where a block of nodes starts in the node pool.
-#[derive(Drop)]
+#[derive(Clone, Copy)]
 pub struct NodeAt(pub u32);
 
 // Where a block of cells starts in the data pool.
-#[derive(Drop)]
+#[derive(Clone, Copy)]
 pub struct CellAt(pub u32);
 
 // The pool of cells: the values of the rules.

@@ -1,5 +1,7 @@
 // Walks over the lent words of the node pool: one step, the three lookups, the trail of an edit.
 // Everything is total on any memory whose mark is within the pool: a step that leaves what is issued is number 5.
+#![tactic(auto)]
+
 pub mod lookups;
 pub mod trails;
 
@@ -17,7 +19,7 @@ use tiers::{CellAt, ChildPool, DataPool};
 const BIT_31: u32 = 0x8000_0000;
 
 // On from a node: down to the child's position, the end of the path, or number 5.
-#[derive(Drop)]
+#[derive(Clone, Copy)]
 pub enum Step {
     Down(u32),
     End,
@@ -26,7 +28,7 @@ pub enum Step {
 
 // What a lookup sees: number 5; no rule, with the nodes visited; or a rule: the node's cells and data bitmap, the rule's
 // data bit and length, and the nodes visited.
-#[derive(Drop)]
+#[derive(Clone, Copy)]
 pub enum Sight {
     Unsound,
     Missing(u32),
@@ -34,7 +36,7 @@ pub enum Sight {
 }
 
 // The walk of an edit: the nodes on the way, by level, and where they stand.
-#[derive(Drop)]
+#[derive(Clone, Copy)]
 pub struct Trail {
     pub sound: bool,
     pub depth: u32,

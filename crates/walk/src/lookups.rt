@@ -12,7 +12,7 @@ use node::{Found, MultiBitNode};
 use tiers::{CellAt, ChildPool};
 
 // The longest rule seen so far: its node's cells, data bitmap and depth, and its data bit. No rule where the bitmap is 0.
-#[derive(Drop)]
+#[derive(Clone, Copy)]
 pub struct Best {
     pub cells: CellAt,
     pub bitmap: u32,

@@ -1,4 +1,6 @@
 // Words of lent slices, with no premise: past the end a read gives 0 and a write does nothing.
+#![tactic(auto)]
+
 ghost use Rattle.std.specs.Prelude.{◌≡◌, get_or, set};
 
 // The word at an index, 0 past the end.

@@ -1,0 +1,10 @@
+use mathlib.Core.Path.{ap, ◌∙◌}
+use mathlib.Core.Bool.{not}
+use Prim.Native.Nat.{ℕ}
+use lib.Dec.{eqb}
+use lib.Bits.{bit_and}
+use Rattle.bits.proofs.OneBit.{one_shl, and_test}
+use Rattle.bits.proofs.has_bit.Goals as goal
+
+pub returns : goal.returns
+returns c = ap (λ (x : ℕ). not (eqb (bit_and c.args.bitmap x) 0)) (one_shl 32 c.requires) ∙ and_test c.args.bitmap c.args.bit

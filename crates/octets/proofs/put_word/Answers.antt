@@ -1,0 +1,16 @@
+use lib.ListN.{length-set}
+use native.Mathlib.Omega.{arith}
+use Rattle.octets.proofs.Written.{written_four}
+use Rattle.octets.proofs.put_word.Goals as goal
+
+pub bounds-s-at-2 : goal.bounds-s-at-2
+bounds-s-at-2 c = simp length-set (omega arith)
+
+pub bounds-s-at-3 : goal.bounds-s-at-3
+bounds-s-at-3 c = simp length-set (omega arith)
+
+pub bounds-s-at-4 : goal.bounds-s-at-4
+bounds-s-at-4 c = simp length-set (omega arith)
+
+pub returns : goal.returns
+returns c = written_four c.args.s.now c.args.at _ _ _ _

@@ -1,0 +1,12 @@
+-- `tiers::ChildPool::free_list_length` meets its contract: where the last section begins, and its length. Assumes nothing.
+use native.Mathlib.Omega.{arith}
+use lib.Dec.{lit≤}
+use Rattle.tiers.specs.Tiers.{child_spacings}
+use Rattle.tiers.proofs.Sections.{start_next, list_lt}
+use Rattle.tiers.proofs.ChildPool.free_list_length.Goals as goal
+
+pub overflow_add-result : goal.overflow_add-result
+overflow_add-result c = omega (arith, start_next child_spacings c.args.size 6, c.section_start_of.ensures.1 32, list_lt child_spacings c.args.size (lit≤ tt) (omega arith))
+
+pub returns : goal.returns
+returns c = omega (arith, start_next child_spacings c.args.size 6, c.section_start_of.ensures.1 32)
