@@ -69,7 +69,7 @@ sum_chain n i k x y z f g h l ex ey inner low high =
 
     between : (m : ℕ) → suc i + m ≤ k → sum (suc i + m) f + x ≡ sum (suc i + m) g + y + m * z
     between m = elim m [
-      | zero ↦ λ w. let e : suc i + 0 ≡ suc i = omega arith in rw e (omega (arith, start))
+      | zero ↦ λ w. omega (arith, start)
       | suc (m → ih) ↦ λ w.
           let e : suc i + suc m ≡ suc (suc i + m) = omega arith in
           let t = inner (suc i + m) (omega arith) (omega arith) in
@@ -107,7 +107,7 @@ count_first (suc n) t c j h = go (t n) refl (count_first n t c)
   where
     back : (m i : ℕ) → t (i + m) ≡ true → t i ≡ true
     back m = elim m [
-      | zero ↦ λ i e. let z : i + 0 ≡ i = omega arith in rw z at e
+      | zero ↦ λ i e. e
       | suc (m → ih) ↦ λ i e. let z : i + suc m ≡ suc (i + m) = omega arith in ih i (c (i + m) (rw z at e))
     ]
 
