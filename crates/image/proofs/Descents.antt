@@ -31,7 +31,7 @@ pub from_last : (n : ℕ) (P : ℕ → Type 0) → ((j : ℕ) → suc j ≡ n �
 from_last n P last step j h = go (n - suc j) j (omega arith)
   where
     go : (m j : ℕ) → m + suc j ≡ n → P j
-    go m = elim m [
+    go = elim [
       | zero ↦ λ j e. last j (omega arith)
       | suc (m → ih) ↦ λ j e. step j (omega arith) (ih (suc j) (omega arith))
     ]

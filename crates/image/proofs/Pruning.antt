@@ -190,7 +190,7 @@ module _ (key : ℕ) (bits : key < 2 ^ width) (places : List ℕ) (path : List M
         (record { es = r.es; on = r.on; image = r.image; account = r.account ∙ v.account; size = r.size ∙ v.size })
 
     climb : (i : ℕ) → Climbs i
-    climb i = elim i [ zero ↦ from_root_lem | suc (i → ih) ↦ from_below i ih ]
+    climb = elim [ zero ↦ from_root_lem | suc (i → ih) ↦ from_below i ih ]
 
 -- where n nodes of a key's path have become empty, level i the lowest, they go: the image without them, and the account is the ledger's
 pub prune_image : {p : Pool} {nodes nf : List ℕ} {q : Pool} {cells cf : List ℕ} {E D : ℕ → Bool} {es vs : ℕ → ℕ} {val : ℕ → Cell} {on od : ℕ → Owner}

@@ -70,7 +70,7 @@ module _ {Value : Type 0} where
   }
     where
       nodes : (j b : ℕ) → b < 2 ^ depth j → eqb (node_no (depth j) b) 1 ≡ node {Value = Value} [] (depth j) b
-      nodes j b = elim j [
+      nodes j b = elim j as (λ j. b < 2 ^ depth j → eqb (node_no (depth j) b) 1 ≡ node {Value = Value} [] (depth j) b) [
         | zero ↦ λ hb. let z : b ≡ 0 = omega arith in rw z (sym (node_root {Value = Value} [] 0))
         | suc j ↦ λ hb. unfold node passed in
             (ne_eqb (node_no (depth (suc j)) b) 1 (λ e. omega (arith, node_far j b)) ∙ sym (ap (λ (x : Bool). x || false) (ne_eqb (depth (suc j)) 0 (λ e. omega arith))))

@@ -34,7 +34,7 @@ module _ (K : ℕ → Bool) (n : ℕ) where
   -- the slot of bit i is how many items stand before item i
   pub bits_slot : (i : ℕ) → i ≤ 32 → set_below (bits_of K n) i ≡ among K (32 * n) i
   unfolding set_below sum
-  bits_slot i = elim i [
+  bits_slot = elim [
     | zero ↦ λ h. refl
     | suc (i → ih) ↦ λ h. let a = ih (omega arith) in let b = bits_bit i (omega arith) in omega arith
   ]

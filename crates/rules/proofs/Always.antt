@@ -57,11 +57,14 @@ module _ {Value : Type 0} where
         cells : Kept (cell_pool D) (cells_in_use D g.rules) g.cells
         cells = omega (arith, b.cells, b.cell_mark)
 
+        there : (k l : ℕ) → accepts N D g (del k l) ≡ true → is_live g.rules k l ≡ true
+        there k l a = unfold accepts in ((and-eq-true_iff (is_live g.rules k l) (remove_room N D g k l)).0 a).0
+
         kept : (e : Edit Value) → Names e → accepts N D g e ≡ true → BothKept N D g p nodes cells e
         kept (put k l v) n a = put_kept N D g p nodes cells k l v n (value_at g.rules k l) refl
-        kept (del k l) n a = unfold accepts in
-            (let s = some_value (value_at g.rules k l) ((and-eq-true_iff (is_live g.rules k l) (remove_room N D g k l)).0 a).0 in
-            del_kept N D g p nodes cells k l s.0 n s.1)
+        kept (del k l) n a =
+            let s = some_value (value_at g.rules k l) (there k l a) in
+            del_kept N D g p nodes cells k l s.0 n s.1
 
         build : BothKept N D g p nodes cells e → ((entered N D e g).nodes.mark ≤ N) × ((entered N D e g).cells.mark ≤ D)
             → Balanced N D (entered N D e g)

@@ -85,8 +85,8 @@ module _ (K : Kind) where
   taken_go zero c = unfold taken in omega arith
   taken_go (suc m) c = rw (back m) (taken_fall c)
     where
-      back : (k : ℕ) → taken (times k (gives 0) ++ fall K c) ≡ taken (fall K c)
-      back k = unfold taken in elim k [ zero ↦ refl | suc (n → ih) ↦ ih ]
+      back : (m : ℕ) → taken (times m (gives 0) ++ fall K c) ≡ taken (fall K c)
+      back = unfold taken in elim [ zero ↦ refl | suc (n → ih) ↦ ih ]
 
 -- a removal takes at most one block, of both pools together
 pub remove_one : {Value : Type 0} (N D : ℕ) (rs : Rules Value) → Proper rs → (k l : ℕ) (v : Value) → IsPrefix k l → value_at rs k l ≡ some v

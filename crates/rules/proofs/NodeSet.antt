@@ -136,8 +136,8 @@ module _ {Value : Type 0} where
   node_deep rs p d b h =
       fails (eqb d 0 || passed rs d b) (λ e. ⊎_elim (λ z. omega (arith, eqb-true d 0 z)) (λ q. none rs p q) (or_cases (eqb d 0) (passed rs d b) e))
     where
-      none : (ts : Rules Value) → Proper ts → passed ts d b ≡ true → ⊥
-      none ts = unfold passed in elim ts [
+      none : (rs : Rules Value) → Proper rs → passed rs d b ≡ true → ⊥
+      none = unfold passed in elim [
         | [] ↦ λ p e. clash false e refl
         | r ∷ (rs → ih) ↦ λ p e.
             ⊎_elim (λ q. omega (arith, ((passes_true r.key r.len d b).0 q).0, p.0.prefix.short)) (ih p.1)

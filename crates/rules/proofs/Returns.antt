@@ -79,8 +79,8 @@ module _ (K : Kind) (tiered : Tiered K) where
   then_singles : (ms : List Move) (n : ℕ) (a : Account) → Fits K ms a → Fits K (ms ++ times n (takes 0)) a
   then_singles [] n a f = singles n a
     where
-      singles : (k : ℕ) (a : Account) → Fits K (times k (takes 0)) a
-      singles k = elim k [ zero ↦ λ a. tt | suc (m → ih) ↦ λ a. ih (moved K (takes 0) a) ]
+      singles : (n : ℕ) (a : Account) → Fits K (times n (takes 0)) a
+      singles = elim [ zero ↦ λ a. tt | suc (m → ih) ↦ λ a. ih (moved K (takes 0) a) ]
   then_singles (takes t ∷ ms) n a f = then_singles ms n (moved K (takes t) a) f
   then_singles (gives t ∷ ms) n a f = (f.0, then_singles ms n (moved K (gives t) a) f.1)
   then_singles (lowers t u ∷ ms) n a f = (f.0, then_singles ms n (moved K (lowers t u) a) f.1)

@@ -68,8 +68,8 @@ sum_chain n i k x y z f g h l ex ey inner low high =
     start = unfold sum in omega (arith, sum_same i f g low, ex, ey)
 
     between : (m : ℕ) → suc i + m ≤ k → sum (suc i + m) f + x ≡ sum (suc i + m) g + y + m * z
-    between m = elim m [
-      | zero ↦ λ w. omega (arith, start)
+    between = elim [
+      | zero ↦ λ w. let e : suc i + 0 ≡ suc i = omega arith in rw e (omega (arith, start))
       | suc (m → ih) ↦ λ w.
           let e : suc i + suc m ≡ suc (suc i + m) = omega arith in
           let t = inner (suc i + m) (omega arith) (omega arith) in
@@ -80,7 +80,7 @@ sum_chain n i k x y z f g h l ex ey inner low high =
     all = let e : suc i + (k - suc i) ≡ k = omega arith in rw e at (between (k - suc i) (omega arith))
 
     after : (m : ℕ) → sum (k + m) f + x ≡ sum (k + m) g + y + (k - suc i) * z
-    after m = elim m [
+    after = elim [
       | zero ↦ let e : k + 0 ≡ k = omega arith in rw e all
       | suc (m → ih) ↦ let e : k + suc m ≡ suc (k + m) = omega arith in rw e (unfold sum in omega (arith, ih, high (k + m) (omega arith)))
     ]
@@ -106,8 +106,8 @@ count_first zero t c j h = absurd (omega arith)
 count_first (suc n) t c j h = go (t n) refl (count_first n t c)
   where
     back : (m i : ℕ) → t (i + m) ≡ true → t i ≡ true
-    back m = elim m [
-      | zero ↦ λ i e. e
+    back = elim [
+      | zero ↦ λ i e. let z : i + 0 ≡ i = omega arith in rw z at e
       | suc (m → ih) ↦ λ i e. let z : i + suc m ≡ suc (i + m) = omega arith in ih i (c (i + m) (rw z at e))
     ]
 
