@@ -2,8 +2,9 @@
 // A short read is no short tail: input is read until the buffer is full or the input ends.
 #![tactic(auto)]
 
-use libc::{STDIN_FILENO, STDOUT_FILENO};
 use map::State;
+use std::io;
+use std::io::Write;
 
 #[derive(Drop)]
 struct Turn {
@@ -11,52 +12,58 @@ struct Turn {
     state: State,
 }
 
-// One read, the answers to it, one write.
+// One read, the answers to it, one write. Where a read fails, what came before it is answered first.
 fn one_turn(
+    rt: &HostRuntime,
     s: State,
     nodes: &mut [u32],
     cells: &mut [u32],
     node_free: &mut [u32],
     cell_free: &mut [u32],
-) -> Turn {
+) -> io::Result<Turn> {
     let mut input = [0u8; 49152];
-    let n = io::read_full(STDIN_FILENO, &mut input);
+    let (n, ended) = intake::read_full(&mut rt.stdin(), &mut input);
     let mut out = [0u8; 49152];
     let state = records::play::play(s, nodes, cells, node_free, cell_free, &input[..n], &mut out);
     let whole = n - n % 12;
-    let is_written = io::write_all(STDOUT_FILENO, &out[..whole]);
+    let mut output = rt.stdout();
+    output.write_all(&out[..whole])?;
     if whole < n {
         records::play::tail(&mut out);
-        let is_told = io::write_all(STDOUT_FILENO, &out[..12]);
-        return Turn {
-            more: false,
-            state: state,
-        };
+        output.write_all(&out[..12])?;
     }
-    Turn {
-        more: is_written && n == 49152,
+    ended?;
+    Ok(Turn {
+        more: n == 49152,
         state: state,
-    }
+    })
 }
 
-fn run(nodes: &mut [u32], cells: &mut [u32], node_free: &mut [u32], cell_free: &mut [u32]) {
+fn run(
+    rt: &HostRuntime,
+    nodes: &mut [u32],
+    cells: &mut [u32],
+    node_free: &mut [u32],
+    cell_free: &mut [u32],
+) -> io::Result<()> {
     let start = State::fresh(nodes, cells, node_free, cell_free, 1024, 2048);
     let mut s = start.state;
     let mut turns = u64::MAX;
     while 0 < turns {
-        let t = one_turn(s, nodes, cells, node_free, cell_free);
+        let t = one_turn(rt, s, nodes, cells, node_free, cell_free)?;
         if !t.more {
-            return;
+            return Ok(());
         }
         s = t.state;
         turns -= 1;
     }
+    Ok(())
 }
 
-fn main() {
+fn main(rt: HostRuntime) -> io::Result<()> {
     let mut nodes = [0u32; 4096];
     let mut cells = [0u32; 2048];
     let mut node_free = [0u32; 2058];
     let mut cell_free = [0u32; 4119];
-    run(&mut nodes, &mut cells, &mut node_free, &mut cell_free);
+    run(&rt, &mut nodes, &mut cells, &mut node_free, &mut cell_free)
 }

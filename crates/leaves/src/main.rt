@@ -10,7 +10,8 @@ mod order_answers;
 ghost use Rattle.std.specs.Prelude.{◌+◌, ◌*◌, ◌≤◌, ◌<◌, length};
 
 use answers::Answer;
-use libc::{STDIN_FILENO, STDOUT_FILENO};
+use std::io;
+use std::io::Write;
 
 // Requests that are read at a time, and the bytes of one and of its answer.
 const BATCH: usize = 512;
@@ -66,23 +67,22 @@ fn answer_batch(input: &[u8], n: usize, out: &mut [u8]) -> usize
     count
 }
 
-// Reads once, answers, writes: is there more to come?
-fn one_batch() -> bool {
+// Reads once, answers, writes: is there more to come? Where a read fails, what came before it is answered first.
+fn one_batch(rt: &HostRuntime) -> io::Result<bool> {
     let mut input = [0u8; 10240];
-    let n = io::read_full(STDIN_FILENO, &mut input);
+    let (n, ended) = intake::read_full(&mut rt.stdin(), &mut input);
     let mut out = [0u8; 6144];
     let count = answer_batch(&input, n, &mut out);
-    let is_written = io::write_all(STDOUT_FILENO, &out[..count * ANSWER]);
-    if !is_written {
-        return false;
-    }
-    n == BATCH * REQUEST
+    rt.stdout().write_all(&out[..count * ANSWER])?;
+    ended?;
+    Ok(n == BATCH * REQUEST)
 }
 
 // A proved loop ends: it counts down from a number that no run uses up.
-fn main() {
+fn main(rt: HostRuntime) -> io::Result<()> {
     let mut turns = u64::MAX;
-    while turns > 0 && one_batch() {
+    while turns > 0 && one_batch(&rt)? {
         turns -= 1;
     }
+    Ok(())
 }
