@@ -1,6 +1,6 @@
 /* The prefix map for C: six calls over memory that the caller lends.
  *
- * Link target/staticlib/libcabinet.a, which `rt staticlib cabinet` proves and builds for x86-64. Each function is proved to
+ * Link target/staticlib/libcabinet.a, which `tools/prove cabinet` proves and builds for x86-64. Each function is proved to
  * hand on exactly what the map (crates/map) answers, for every key, length, state and content of the slices; docs/PROMISES.md
  * says what is proved of the map. What C has to see to is what a Rust slice sees to: each pointer leads to as many words as the
  * length beside it says and is not null, no two of the four areas overlap, and nobody else touches them during the call.

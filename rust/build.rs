@@ -1,4 +1,4 @@
-//! Finds the static library that `rt staticlib cabinet` proves and builds, and links it.
+//! Finds the static library that `tools/prove cabinet` proves and builds, and links it.
 
 use std::path::{Path, PathBuf};
 use std::{env, fs};
@@ -51,7 +51,7 @@ fn folder() -> Result<PathBuf, String> {
         ),
         None => (
             package.join(USUAL),
-            format!("run `rt staticlib cabinet` in the repository's root, or set {VARIABLE} to the folder that holds it"),
+            format!("run `tools/prove cabinet` in the repository's root, or set {VARIABLE} to the folder that holds it"),
         ),
     };
     let file = folder.join(FILE);

@@ -7,7 +7,6 @@ standard library alone. Exit status: 0 all equal, 1 not equal, 2 bad usage or so
 import collections
 import os
 import re
-import shutil
 import struct
 import subprocess
 import sys
@@ -259,18 +258,17 @@ def telling(all_histories):
 COMPUTING = [("prefix", "Prefix"), ("tiers", "Tiers"), ("rules", "Sums"), ("rules", "Rules"), ("rules", "Nodes"), ("rules", "Account"),
              ("rules", "Ledger"), ("history", "Calls"), ("history", "Promises")]
 THEORY = "played"  # the scratch crate
-HEAD = """use mathlib.Core.Path.{_≡_, refl}
-use mathlib.Core.List.{[], _∷_}
-use Rattle·store.specs.Words.{cellAs}
-use Rattle·map.specs.declared.Answer.the-variants.{Added, Replaced, Removed, Found, TooLong, Missing, NoRoom, Broken}
-use Rattle·map.specs.Answers.{valuesOf}
-use Rattle·history.specs.Calls.{insert, remove, exact, longest, shortest, reply}
-use Rattle·history.specs.Promises.{ledger, edits, replies}
+HEAD = """use Rattle.std.specs.Prelude.{◌≡◌, refl, [], ◌∷◌}
+use Rattle.store.specs.Words.{cell_as}
+use Rattle.map.specs.declared.Answer.TheVariants.{Added, Replaced, Removed, Found, TooLong, Missing, NoRoom, Broken}
+use Rattle.map.specs.Answers.{values_of}
+use Rattle.history.specs.Calls.{insert, remove, exact, longest, shortest, reply}
+use Rattle.history.specs.Promises.{ledger, edits, replies}
 """
 
 
 def call_term(call):
-    value = f" (cellAs {call.value})" if call.operation == "insert" else ""
+    value = f" (cell_as {call.value})" if call.operation == "insert" else ""
     return f"{call.operation} {call.key:#x} {call.length}{value}"
 
 
@@ -314,11 +312,10 @@ class Checker:
             for line in file:
                 name, colon, _ = line.split("#")[0].partition(":")
                 if colon:
-                    lines[name.strip()] = line
+                    lines[name.split()[0]] = line
         stand_on = {crate for crate, _ in COMPUTING} | {"store", "map"}
         kept, todo = {}, list(stand_on)
-        for part in ("crates", "target/rlib", "target/stamp", "target/log"):
-            os.makedirs(os.path.join(folder, part))
+        os.makedirs(os.path.join(folder, "crates"))
         while todo:
             crate = todo.pop()
             if crate in kept:
@@ -328,10 +325,6 @@ class Checker:
             if self.has_code(crate):
                 kept[crate] = lines[crate]
                 self.link(f"crates/{crate}")
-                self.link(f"target/rlib/{crate}.rlib")
-                if not os.path.exists(os.path.join(root, "target/stamp", crate)):
-                    stop(2, f"{crate}, on which the definitions stand, is not proved: run rt check {crate}")
-                shutil.copy(os.path.join(root, "target/stamp", crate), os.path.join(folder, "target/stamp", crate))
                 todo += lines[crate].split("#")[0].partition(":")[2].split()
             else:
                 uses = sorted(self.used(crate))
@@ -343,11 +336,11 @@ class Checker:
             file.writelines([*kept.values(), f"{THEORY}: {' '.join(sorted(stand_on))}\n"])
         os.makedirs(os.path.join(folder, "crates", THEORY, "src"))
         os.makedirs(os.path.join(folder, "crates", THEORY, "specs"))
-        self.write("src/lib.rt", "// No code.\n")
+        self.write("src/lib.rt", "// No code.\n#![tactic(auto)]\n")
         self.write("specs/Lib.antt", "pub mod Statements\n")
         names = [(module, name) for crate, module in COMPUTING
                  for name in re.findall(r"^ *unfoldable pub (\S+)", self.read(f"crates/{crate}/specs/{module}.antt"), re.M)]
-        self.head = HEAD + "".join(f"use Rattle·{crate}.specs.{module} as {module}\n" for crate, module in COMPUTING)
+        self.head = HEAD + "".join(f"use Rattle.{crate}.specs.{module} as {module}\n" for crate, module in COMPUTING)
         self.unfolding = "unfolding " + " ".join(f"{module}.{name}" for module, name in names)
 
     def read(self, path):
@@ -371,7 +364,7 @@ class Checker:
         """The crates that a crate's definitions name."""
         at = os.path.join(self.root, "crates", crate, "specs")
         text = "".join(self.read(f"crates/{crate}/specs/{file}") for file in os.listdir(at))
-        return set(re.findall(r"^use Rattle·(\w+)\.", text, re.M))
+        return set(re.findall(r"^use Rattle\.(?!std\b)(\w+)\.", text, re.M))
 
     def refused(self, statements):
         """The numbers of the statements, each to be proved by `refl`, that the checker refuses."""
@@ -379,8 +372,8 @@ class Checker:
         for at, statement in enumerate(statements):
             text += f"\npub statement{at} : {statement}\n{self.unfolding}\nstatement{at} = refl\n"
         self.write("specs/Statements.antt", text)
-        ran = subprocess.run(["rt", "check", THEORY], cwd=self.folder, stdout=subprocess.PIPE, stderr=subprocess.STDOUT, encoding="utf-8")
-        if ran.returncode == 0 and f"rt: {THEORY} proved" in ran.stdout:
+        ran = subprocess.run(["rt", "check"], cwd=os.path.join(self.folder, "crates", THEORY), stdout=subprocess.PIPE, stderr=subprocess.STDOUT, encoding="utf-8")
+        if ran.returncode == 0 and re.search(r"^logic=proved ", ran.stdout, re.M):
             return []
         at_fault = {int(at) for at in re.findall(r"Statements\.antt:\d+:\d+: error: `statement(\d+)`:", ran.stdout)}
         if ran.returncode != 1 or not at_fault:
@@ -401,7 +394,7 @@ def definitions_answer(checker, history, at):
     values = {earlier.value for earlier in history.calls[:at]}
     guesses = [(0, 1, 2, 3, 4, 5, 8), range(33), range(8), sorted(masked | {0}), sorted(values | {0})]
     asked = [(part, guess) for part, parts in zip(FIELDS, guesses) for guess in parts]
-    no = set(checker.refused([f"valuesOf ({reply_term(history, at)}) .{part} ≡ {guess}" for part, guess in asked]))
+    no = set(checker.refused([f"(values_of ({reply_term(history, at)})).{part} ≡ {guess}" for part, guess in asked]))
     held = [pair for number, pair in enumerate(asked) if number not in no]
     return Answer(*(guess for _, guess in held)) if [part for part, _ in held] == list(FIELDS) else None
 

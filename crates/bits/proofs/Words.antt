@@ -1,17 +1,14 @@
 -- The number that a test picks bit by bit: its bits, its bound, and when two are equal. Assumes nothing.
-use mathlib.Core.Path.{◌≡◌, refl, sym, ap, ap₂, ◌∙◌, subst}
+use mathlib.Core.Path.{◌≡◌, sym, ap, ◌∙◌}
 use mathlib.Core.Logic.{◌⊎◌, inl, inr}
-use mathlib.Core.Bool.{Bool, true, false, ◌&&◌}
+use mathlib.Core.Bool.{Bool, true, false}
 use Prim.Native.Nat.{ℕ, zero, suc, ◌+◌, ◌-◌, ◌*◌, ◌/◌, ◌%◌, ◌^◌, ◌≤◌, ◌<◌, min}
 use native.Mathlib.Nat.{le_of_suc-le-suc, not-suc-le-zero, eq-or-lt_of_le, pow-suc, add_comm, add-mul-mod_self_left, add-mul-div_right, mul_assoc, mul_comm, mod-eq_of_lt}
 use native.Mathlib.Omega.{arith}
-use native.Mathlib.Decide.{dec_lt}
-use lib.Dec.{T, eqb, eqb→eq}
 use lib.Pow.{pow_pos, pow-add, high}
-use lib.Bits.{bit_and, and_le_l}
+use lib.Bits.{bit_and}
 use Rattle.bits.specs.Bits.{one, bit_at, word}
-use Rattle.bits.proofs.BitByBit.{bit_of_and, bit_high, bit_above, ext}
-use Rattle.bits.proofs.Table.{up_to, up_to_at}
+use Rattle.bits.proofs.BitByBit.{bit_of_and, bit_above, ext}
 
 -- a word of k bits is below 2 ^ k
 pub word_lt : (k : ℕ) (f : ℕ → Bool) → word k f < 2 ^ k
