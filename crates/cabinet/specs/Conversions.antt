@@ -1,6 +1,5 @@
 -- The structs that cross to C, as the map's own state, answer and outcome. Assumes nothing.
 use Rattle.std.specs.Prelude.{ℕ}
-use Rattle.blocks.specs.declared.Pool.{Pool}
 use Rattle.map.specs.declared.State.{State}
 use Rattle.map.specs.declared.Answer.{Answer}
 use Rattle.map.specs.declared.Edited.{Edited}

@@ -10,7 +10,6 @@ use Rattle.store.specs.declared.Cell.{Cell}
 use Rattle.walk.specs.declared.Sight.{Sight}
 use Rattle.walk.specs.Lookups.{exact_sight, longest_sight, shortest_sight}
 use Rattle.map.specs.declared.State.{State}
-use Rattle.map.specs.declared.Answer.{Answer}
 use Rattle.map.specs.Memory.{Memory, refusal}
 use Rattle.map.specs.Lookups.{answer_of, lookup_of, exact_of, longest_of, shortest_of}
 use Rattle.rules.specs.Rules.{value_at, IsPrefix, nothing, found}

@@ -26,7 +26,7 @@ use Rattle.map.specs.declared.Answer.TheVariants.{NoRoom}
 use Rattle.map.specs.Memory.{Memory, memory, state_as}
 use Rattle.map.specs.Inserts.{replace_of, here_of, below_of, arrived_of, insert_of}
 use Rattle.rules.specs.Rules.{Rules, put, value_at, is_some, IsPrefix}
-use Rattle.rules.specs.Nodes.{depth, node, node_count}
+use Rattle.rules.specs.Nodes.{depth, node_count}
 use Rattle.rules.specs.Account.{Kind, node_pool, cell_pool, Account, Move, run}
 use Rattle.rules.specs.Ledger.{Ledger, rise, nodes_come, missing, lowest, children_on, node_moves, insert_room, entered}
 use Rattle.rules.proofs.Returns.{Fits, insert_fits}

@@ -25,7 +25,7 @@ use Rattle.rules.specs.Sums.{sum}
 use Rattle.rules.specs.Ledger.{fresh}
 use Rattle.rules.proofs.Always.{fresh_balanced}
 use Rattle.pools.specs.Items.{items, place_of}
-use Rattle.pools.specs.Sound.{Owner, kept, free, unused, FreeAt, block_for, Coloured}
+use Rattle.pools.specs.Sound.{Owner, kept, unused, FreeAt, block_for, Coloured}
 use Rattle.pools.specs.Accounts.{account_of}
 use Rattle.pools.proofs.Items.{among_le, among_none}
 use Rattle.image.specs.Tree.{Shape}

@@ -22,7 +22,7 @@ use Rattle.walk.specs.Steps.{sound_of}
 use Rattle.walk.specs.Lookups.{visited, better, counted, longest_from, longest_sight, shortest_from, shortest_sight, exact_in, exact_from, exact_sight}
 use Rattle.walk.proofs.LookupWays.{exact_short, exact_missing, exact_rule}
 use Rattle.walk.proofs.Turns.{left, longest_root, longest_end, longest_down, shortest_root, shortest_found, shortest_end, shortest_down, exact_root, exact_end, exact_down}
-use Rattle.rules.specs.Rules.{Rules, value_at, is_some, nothing, told, exact, longest, shortest, IsPrefix, Proper}
+use Rattle.rules.specs.Rules.{Rules, value_at, is_some, nothing, exact, longest, shortest, IsPrefix, Proper}
 use Rattle.rules.specs.Nodes.{depth, node_count, count_to, shortest_count}
 use Rattle.rules.proofs.Paths.{count_root, shortest_count_lem}
 use Rattle.rules.proofs.InUse.{depth_next}

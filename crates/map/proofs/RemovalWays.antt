@@ -5,7 +5,6 @@ use mathlib.Core.List.{List}
 use Prim.Native.Nat.{ℕ, ◌+◌, ◌-◌, ◌/◌, ◌<◌, ◌≤◌}
 use native.Mathlib.Omega.{arith}
 use borrow.Author.Tests.{eq-eqb, ne_eqb, le-leb, lt-leb}
-use lib.Dec.{eqb, leb}
 use lib.ListN.{length, get_or}
 use Rattle.bits.specs.Bits.{has, set_below}
 use Rattle.prefix.specs.Prefix.{width, masked}
@@ -26,7 +25,7 @@ use Rattle.edits.proofs.WayUp.{within_list}
 use Rattle.map.specs.declared.State.{State}
 use Rattle.map.specs.declared.Edited.{Edited}
 use Rattle.map.specs.declared.Answer.TheVariants.{Removed}
-use Rattle.map.specs.Memory.{Memory, memory, state_as, edited, refusal, refuse}
+use Rattle.map.specs.Memory.{Memory, memory, state_as, edited, refusal}
 use Rattle.map.specs.Removals.{taken_of, remove_of}
 
 -- the value that a block's slot holds, its place worked out in steps

@@ -1,6 +1,5 @@
 -- A fresh start: all lent memory written, node 0 issued (document 01, "Memory that the caller lends"). Assumes nothing.
 use Rattle.std.specs.Prelude.{ℕ, cond, length}
-use Rattle.blocks.specs.declared.Pool.{Pool}
 use Rattle.entry.specs.First.{edit_shaped}
 use Rattle.entry.specs.Fresh.{empty_nodes, zeros, pool_as}
 use Rattle.map.specs.declared.Answer.TheVariants.{Started, WrongSlice}

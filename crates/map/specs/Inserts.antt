@@ -1,5 +1,5 @@
 -- Insert (document 01): refused, replaced, stored in the node at the path's end, or stored below it. Assumes nothing.
-use Rattle.std.specs.Prelude.{ℕ, ◌+◌, ◌-◌, ◌/◌, Bool, cond, List, leb, eqb, length, get_or}
+use Rattle.std.specs.Prelude.{ℕ, ◌+◌, ◌-◌, ◌/◌, cond, leb, eqb, length, get_or}
 use Rattle.bits.specs.Bits.{has, count, set_below}
 use Rattle.prefix.specs.Prefix.{masked}
 use Rattle.tiers.specs.Tiers.{stride, data_top, child_top, empty}

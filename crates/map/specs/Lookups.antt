@@ -1,5 +1,5 @@
 -- Exact, longest and shortest: first tests, the walk, then the value of what was seen (document 01, calls and number 5). Assumes nothing.
-use Rattle.std.specs.Prelude.{ℕ, ◌+◌, Bool, cond, List, eqb, length}
+use Rattle.std.specs.Prelude.{ℕ, ◌+◌, cond, List, eqb, length}
 use Rattle.bits.specs.Bits.{count, set_below}
 use Rattle.prefix.specs.Prefix.{masked}
 use Rattle.store.specs.Words.{cell_at}

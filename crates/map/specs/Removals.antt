@@ -1,5 +1,5 @@
 -- Remove (document 01): refused, or the rule's value taken, then empty nodes given back from the bottom up. Assumes nothing.
-use Rattle.std.specs.Prelude.{ℕ, ◌+◌, ◌-◌, ◌/◌, Bool, cond, List, leb, eqb, length, get_or}
+use Rattle.std.specs.Prelude.{ℕ, ◌+◌, ◌-◌, ◌/◌, cond, leb, eqb, length, get_or}
 use Rattle.bits.specs.Bits.{has, set_below}
 use Rattle.prefix.specs.Prefix.{masked}
 use Rattle.tiers.specs.Tiers.{stride}

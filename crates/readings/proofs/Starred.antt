@@ -1,5 +1,5 @@
 -- The one statement that proves the starred readings: each row's input gives its result. Assumes nothing.
-use mathlib.Core.Path.{◌≡◌, refl}
+use mathlib.Core.Path.{refl}
 use Rattle.bits.specs.Bits.{bit_at, set_below, with_bit, word}
 use Rattle.prefix.specs.Prefix.{first, masked}
 use Rattle.tiers.specs.Tiers.{spacing_of, tier_of, section_length, section_start}

@@ -1,5 +1,5 @@
 -- What each input of the list gives, by the leaves' and the map's own definitions. Assumes nothing.
-use Rattle.std.specs.Prelude.{◌&&◌, cond, ℕ, ◌%◌, leb, ltb, eqb}
+use Rattle.std.specs.Prelude.{cond, ◌%◌, leb, ltb, eqb}
 use Rattle.bits.specs.Bits.{word}
 use Rattle.prefix.specs.Prefix.{width}
 use Rattle.tiers.specs.Tiers.{stride, data_spacings, child_spacings, tier_of}

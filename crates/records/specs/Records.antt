@@ -1,5 +1,5 @@
 -- Bench records (document 01): twelve bytes in, twelve bytes out. Assumes nothing.
-use Rattle.std.specs.Prelude.{ℕ, ◌+◌, ◌%◌, Bool, ◌&&◌, ◌||◌, cond, List, [], ◌∷◌, ◌++◌, leb, eqb, get_or}
+use Rattle.std.specs.Prelude.{ℕ, ◌+◌, ◌%◌, Bool, ◌&&◌, ◌||◌, cond, List, ◌∷◌, ◌++◌, leb, eqb, get_or}
 use Rattle.octets.specs.Octets.{word_in, bytes_of}
 use Rattle.store.specs.Words.{cell_as}
 use Rattle.map.specs.Answers.{Values, values}

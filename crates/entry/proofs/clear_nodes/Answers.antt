@@ -1,6 +1,5 @@
 -- `entry::clear_nodes` meets its contract: a turn writes the next node. Assumes nothing.
 use mathlib.Core.Path.{refl, ap, ◌∙◌}
-use Prim.Native.Nat.{◌-◌}
 use native.Mathlib.Omega.{arith}
 use Rattle.store.specs.Words.{save_node}
 use Rattle.entry.proofs.Ways.{empty_none, empty_turn, empty_end}
@@ -13,13 +12,12 @@ pub save_node-requires : goal.save_node-requires
 save_node-requires c = omega arith
 
 pub loop-i-preserved : goal.loop-i-preserved
-loop-i-preserved c =
-    (
-      omega arith,
-      c.save_node.auto.s ∙ c.loop-i.invariant.1,
-      empty_turn c.args.nodes.now c.loop-i.i c.loop-i.invariant.2 c.wide.ensures
-          (c.save_node.ensures ∙ ap (save_node c.loop-i.nodes c.wide.result) c.empty.ensures),
-    )
+loop-i-preserved c = (
+  omega arith,
+  c.save_node.auto.s ∙ c.loop-i.invariant.1,
+  empty_turn c.args.nodes.now c.loop-i.i c.loop-i.invariant.2 c.wide.ensures
+      (c.save_node.ensures ∙ ap (save_node c.loop-i.nodes c.wide.result) c.empty.ensures),
+)
 
 pub returns : goal.returns
 returns c =

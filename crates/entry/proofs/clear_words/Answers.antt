@@ -1,6 +1,5 @@
 -- `entry::clear_words` meets its contract: the words passed are 0, and in the end all are passed. Assumes nothing.
 use mathlib.Core.Path.{refl, ◌∙◌}
-use Prim.Native.Nat.{◌-◌}
 use native.Mathlib.Omega.{arith}
 use lib.ListN.{length-set}
 use Rattle.entry.proofs.Ways.{clear_turn, clear_end}

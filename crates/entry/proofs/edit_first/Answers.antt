@@ -1,6 +1,5 @@
 -- `entry::edit_first` meets its contract: 3, then 1, then 5, else 0. Assumes nothing.
 use mathlib.Core.Path.{sym, ◌∙◌}
-use borrow.Author.Rules.{rules}
 use Rattle.entry.proofs.Ways.{edit_3, edit_1, edit_0, edit_5}
 use Rattle.entry.proofs.edit_first.Goals as goal
 

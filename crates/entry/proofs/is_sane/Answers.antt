@@ -1,6 +1,5 @@
 -- `entry::is_sane` meets its contract: the tests are those of the definition, in its order. Assumes nothing.
 use mathlib.Core.Path.{sym, ◌∙◌}
-use borrow.Author.Rules.{rules}
 use Rattle.entry.proofs.Ways.{nodes_unsound, cells_unsound, rules_decide}
 use Rattle.entry.proofs.is_sane.Goals as goal
 

@@ -1,6 +1,5 @@
 -- `entry::lookup_first` meets its contract: 3, then 1, then 5, else 0. Assumes nothing.
 use mathlib.Core.Path.{sym, ◌∙◌}
-use borrow.Author.Rules.{rules}
 use Rattle.entry.proofs.Ways.{lookup_3, lookup_1, lookup_0, lookup_5}
 use Rattle.entry.proofs.lookup_first.Goals as goal
 

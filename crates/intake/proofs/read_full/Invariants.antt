@@ -1,5 +1,5 @@
 -- What came so far stands at the buffer's start, and the input gave just that. Each turn that goes on fills a byte or more.
-use Rattle.std.proofs.Common.{length, ◌-◌, ◌≡◌, ◌≤◌, take}
+use Rattle.std.proofs.Common.{length, ◌-◌, ◌≤◌, take}
 use Rattle.std.specs.Io.KnownBytes.{Consumes}
 use Rattle.intake.proofs.read_full.Given as goal
 

@@ -1,5 +1,4 @@
 use mathlib.Core.Path.{refl, ◌∙◌}
-use Prim.Native.Nat.{◌-◌}
 use native.Mathlib.Omega.{arith}
 use Rattle.store.specs.Words.{move_node}
 use Rattle.store.proofs.Steps.{lift_turn, lift_end}
@@ -9,13 +8,12 @@ pub loop-i-init : goal.loop-i-init
 loop-i-init c = (omega arith, refl, refl)
 
 pub loop-i-preserved : goal.loop-i-preserved
-loop-i-preserved c =
-    (
-      omega arith,
-      c.move_node.auto.s ∙ c.loop-i.invariant.1,
-      lift_turn move_node c.args.a c.loop-i-test.true refl
-          c.move_node.ensures c.loop-i.invariant.2,
-    )
+loop-i-preserved c = (
+  omega arith,
+  c.move_node.auto.s ∙ c.loop-i.invariant.1,
+  lift_turn move_node c.args.a c.loop-i-test.true refl
+      c.move_node.ensures c.loop-i.invariant.2,
+)
 
 pub returns : goal.returns
 returns c = lift_end move_node c.args.a c.loop-i-test.false c.loop-i.invariant.2

@@ -1,5 +1,4 @@
 use mathlib.Core.Path.{refl, ◌∙◌}
-use Prim.Native.Nat.{◌-◌}
 use native.Mathlib.Omega.{arith}
 use Rattle.store.specs.Words.{move_node}
 use Rattle.store.proofs.Steps.{run_none, run_turn, run_end}
@@ -9,13 +8,12 @@ pub loop-i-init : goal.loop-i-init
 loop-i-init c = (omega arith, refl, run_none move_node _ _ _)
 
 pub loop-i-preserved : goal.loop-i-preserved
-loop-i-preserved c =
-    (
-      omega arith,
-      c.move_node.auto.s ∙ c.loop-i.invariant.1,
-      run_turn move_node c.args.s.now c.args.a c.args.b c.loop-i.i c.loop-i.invariant.2
-          c.move_node.ensures,
-    )
+loop-i-preserved c = (
+  omega arith,
+  c.move_node.auto.s ∙ c.loop-i.invariant.1,
+  run_turn move_node c.args.s.now c.args.a c.args.b c.loop-i.i c.loop-i.invariant.2
+      c.move_node.ensures,
+)
 
 pub returns : goal.returns
 returns c =

@@ -1,4 +1,3 @@
-use borrow.Author.Rules.{rules}
 use Rattle.map.specs.Memory.{memory}
 use Rattle.readings.proofs.SmallWays.{after_none, after_one, after_two}
 use Rattle.readings.proofs.small.longest_after.Goals as goal

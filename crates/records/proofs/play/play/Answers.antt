@@ -1,6 +1,6 @@
 -- `records::play::play` meets its contract. Assumes nothing.
 use mathlib.Core.Path.{◌≡◌, ap, ◌∙◌}
-use Prim.Native.Nat.{ℕ, ◌-◌, ◌/◌}
+use Prim.Native.Nat.{ℕ, ◌/◌}
 use lib.ListN.{length}
 use native.Mathlib.Omega.{arith}
 use Rattle.map.specs.Memory.{memory}

@@ -1,7 +1,7 @@
 -- `walk::lookups::shortest_sight` meets its contract. The loop's invariant: the walk stands in the tree, `rest` is what is left of the key there,
 -- and what is left of the walk gives the whole answer. The measure falls with the depth. Assumes nothing.
 use mathlib.Core.Path.{refl, sym, ap, ◌∙◌}
-use Prim.Native.Nat.{ℕ, ◌-◌}
+use Prim.Native.Nat.{ℕ}
 use native.Mathlib.Omega.{arith}
 use lib.ListN.{length}
 use Rattle.places.proofs.Rest.{rest_root}

@@ -1,7 +1,6 @@
 -- `walk::trails::trail` meets its contract. The loop's invariant: the walk stands in the tree at its level, and what is left of it gives the whole trail.
 -- The measure falls with the depth. Assumes nothing.
 use mathlib.Core.Path.{refl, ◌∙◌}
-use Prim.Native.Nat.{◌-◌}
 use native.Mathlib.Omega.{arith}
 use lib.ListN.{length}
 use Rattle.walk.proofs.Turns.{in_slice, at_root, stands, nearer, trail_no_root, trail_root, trail_unsound, trail_broken, trail_end, trail_down}
