@@ -26,5 +26,11 @@ use Rattle.readings.specs.Reading.{reading_of}
 use Rattle.readings.specs.Starred.{starred, AllHold}
 
 pub all_starred : AllHold starred
-unfolding reading_of longest_after said_of is_ancestor is_child_below lead bit_at set_below with_bit word first masked spacing_of tier_of section_length section_start data_bit child_bit path_of length_at path_in covers_query found_or longest_from_level longest_in ask_of less_of take_of grow_ask_of grow_of stays_of singles_of chain_ask_of sections_of sane_of run_of open_of widen_cells widen_nodes cell_at save_cell node_at save_node better counted longest_step longest_from_node longest_sight sound_of children_within data_within step_of trail_step trail_from trail_of lookup_shaped edit_shaped sane_state lookup_first edit_first empty_nodes keep_of chain_of make_of fresh_of below_of arrived_of insert_of answer_of longest_of
+unfolding reading_of longest_after said_of is_ancestor is_child_below lead bit_at set_below with_bit word first masked
+    spacing_of tier_of section_length section_start data_bit child_bit path_of length_at path_in covers_query found_or
+    longest_from_level longest_in ask_of less_of take_of grow_ask_of grow_of stays_of singles_of chain_ask_of
+    sections_of sane_of run_of open_of widen_cells widen_nodes cell_at save_cell node_at save_node better counted
+    longest_step longest_from_node longest_sight sound_of children_within data_within step_of trail_step trail_from
+    trail_of lookup_shaped edit_shaped sane_state lookup_first edit_first empty_nodes keep_of chain_of make_of fresh_of
+    below_of arrived_of insert_of answer_of longest_of
 all_starred = (refl, (refl, (refl, (refl, (refl, (refl, (refl, (refl, (refl, (refl, (refl, (refl, (refl, (refl, (refl, (refl, (refl, tt)))))))))))))))))

@@ -14,4 +14,10 @@ pub save_node-requires : goal.save_node-requires
 save_node-requires c = omega (arith, c.wide.ensures, c.ranges.at)
 
 pub returns : goal.returns
-returns c = upped c.args.p c.args.nodes.now c.args.list.now c.args.at c.args.x c.args.depth c.args.key c.child_count-c.result c.child_count-c.ensures c.child_bit-bit.result c.child_bit-bit.ensures c.child_slot-slot.result c.child_slot-slot.ensures c.shrink-g.result _ c.shrink-g.ensures c.fits.result (c.fits.ensures 32) _ c.narrow_nodes.ensures c.unset_bit.result c.unset_bit.ensures c.with_children-y.result c.with_children-y.ensures c.wide.result c.wide.ensures _ c.save_node.ensures
+returns c =
+    let a = c.args in
+    upped a.p a.nodes.now a.list.now a.at a.x a.depth a.key
+    c.child_count-c.result c.child_count-c.ensures c.child_bit-bit.result c.child_bit-bit.ensures
+    c.child_slot-slot.result c.child_slot-slot.ensures c.shrink-g.result _ c.shrink-g.ensures
+    c.fits.result (c.fits.ensures 32) _ c.narrow_nodes.ensures c.unset_bit.result c.unset_bit.ensures
+    c.with_children-y.result c.with_children-y.ensures c.wide.result c.wide.ensures _ c.save_node.ensures

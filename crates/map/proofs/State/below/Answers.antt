@@ -13,10 +13,16 @@ pub chain_ask-a-requires : goal.chain_ask-a-requires
 chain_ask-a-requires c = (omega (arith, below_le c.args.x.child_bitmap 32, c.child_count.ensures), omega (arith, c.requires.2), search rules, c.requires.4, c.requires.5)
 
 pub returns-then-a-ne0 : goal.returns-then-a-ne0
-returns-then-a-ne0 c = below_refused c.args.self c.args.nodes.now c.args.cells.now c.args.node_free.now c.args.cell_free.now c.args.key c.args.len c.args.c c.args.at c.args.depth c.args.x c.requires.0 c.child_count.ensures c.chain_ask-a.ensures c.if-a-ne0.true c.refused.ensures
+returns-then-a-ne0 c =
+    let a = c.args in
+    below_refused a.self a.nodes.now a.cells.now a.node_free.now a.cell_free.now a.key a.len a.c a.at a.depth a.x
+    c.requires.0 c.child_count.ensures c.chain_ask-a.ensures c.if-a-ne0.true c.refused.ensures
 
 pub returns-then-d-ne0 : goal.returns-then-d-ne0
-returns-then-d-ne0 c = below_full c.args.self c.args.nodes.now c.args.cells.now c.args.node_free.now c.args.cell_free.now c.args.key c.args.len c.args.c c.args.at c.args.depth c.args.x c.requires.0 c.child_count.ensures c.chain_ask-a.ensures c.if-a-ne0.false c.ask-d.ensures c.if-d-ne0.true c.refused-then-d-ne0.ensures
+returns-then-d-ne0 c =
+    let a = c.args in
+    below_full a.self a.nodes.now a.cells.now a.node_free.now a.cell_free.now a.key a.len a.c a.at a.depth a.x
+    c.requires.0 c.child_count.ensures c.chain_ask-a.ensures c.if-a-ne0.false c.ask-d.ensures c.if-d-ne0.true c.refused-then-d-ne0.ensures
 
 pub make-m-requires : goal.make-m-requires
 make-m-requires c = (search rules, omega (arith, c.requires.2), omega (arith, c.requires.2, c.requires.3))
@@ -28,4 +34,7 @@ pub added-requires : goal.added-requires
 added-requires c = c.requires.1
 
 pub returns : goal.returns
-returns c = below_made c.args.self c.args.nodes.now c.args.cells.now c.args.node_free.now c.args.cell_free.now c.args.key c.args.len c.args.c c.args.at c.args.depth c.args.x c.requires.0 c.child_count.ensures c.chain_ask-a.ensures c.if-a-ne0.false c.ask-d.ensures c.if-d-ne0.false c.wide.ensures c.make-m.ensures.0 c.empty.ensures c.keep-q2.ensures c.added.ensures
+returns c =
+    let a = c.args in
+    below_made a.self a.nodes.now a.cells.now a.node_free.now a.cell_free.now a.key a.len a.c a.at a.depth a.x
+    c.requires.0 c.child_count.ensures c.chain_ask-a.ensures c.if-a-ne0.false c.ask-d.ensures c.if-d-ne0.false c.wide.ensures c.make-m.ensures.0 c.empty.ensures c.keep-q2.ensures c.added.ensures

@@ -13,7 +13,8 @@ returns-then-n-ne0 c =
     let edit_first = c.edit_first-n in
     let if1 = c.if-n-ne0 in
     let refused = c.refused in
-    remove_no args.self args.nodes.now args.cells.now args.node_free.now args.cell_free.now args.key args.len edit_first.result edit_first.ensures if1.true refused.result refused.ensures
+    remove_no args.self args.nodes.now args.cells.now args.node_free.now args.cell_free.now args.key args.len
+    edit_first.result edit_first.ensures if1.true refused.result refused.ensures
 
 pub mask_key-k-requires : goal.mask_key-k-requires
 mask_key-k-requires c =
@@ -38,7 +39,9 @@ returns-then-not-t c =
     let trail = c.trail-t in
     let if2 = c.if-not-t in
     let refused2 = c.refused-then-not-t in
-    remove_broken args.self args.nodes.now args.cells.now args.node_free.now args.cell_free.now args.key args.len edit_first.result edit_first.ensures if1.false mask-key.result mask-key.ensures trail.result trail.ensures if2.true refused2.result refused2.ensures
+    remove_broken args.self args.nodes.now args.cells.now args.node_free.now args.cell_free.now args.key args.len
+    edit_first.result edit_first.ensures if1.false mask-key.result mask-key.ensures trail.result trail.ensures if2.true
+    refused2.result refused2.ensures
 
 pub overflow_add-t : goal.overflow_add-t
 overflow_add-t c =
@@ -63,7 +66,9 @@ returns-then-t-len c =
     let if2 = c.if-not-t in
     let if3 = c.if-t-len in
     let refused3 = c.refused-then-t-len in
-    remove_short args.self args.nodes.now args.cells.now args.node_free.now args.cell_free.now args.key args.len edit_first.result edit_first.ensures if1.false mask-key.result mask-key.ensures trail.result trail.ensures if2.false if3.true refused3.result refused3.ensures
+    remove_short args.self args.nodes.now args.cells.now args.node_free.now args.cell_free.now args.key args.len
+    edit_first.result edit_first.ensures if1.false mask-key.result mask-key.ensures trail.result trail.ensures if2.false if3.true
+    refused3.result refused3.ensures
 
 pub bounds-t-i : goal.bounds-t-i
 bounds-t-i c =
@@ -120,7 +125,10 @@ returns-then-has_data_bit c =
     let r = remove_ready args.self args.nodes.now args.cells.now args.node_free.now args.cell_free.now args.key args.len edit_first.result edit_first.ensures if1.false in
     let w = on_trail args.nodes.now _ mask-key.result args.len trail.result trail.ensures r.look.short if2.false in
     let d : trail.result.depth ≤ 30 = trailed_depth _ _ _ _ _ r.look.short w in
-    remove_taken args.self args.nodes.now args.cells.now args.node_free.now args.cell_free.now args.key args.len edit_first.result edit_first.ensures if1.false mask-key.result mask-key.ensures trail.result trail.ensures if2.false if3.false _ (node_in trail.result.nodes _ wide.result _ wide.ensures w.path.all_nodes (omega (arith, d))) data_bit.result data_bit.ensures (sym has-data-bit.ensures ∙ if4.true) _ taken.ensures
+    remove_taken args.self args.nodes.now args.cells.now args.node_free.now args.cell_free.now args.key args.len
+    edit_first.result edit_first.ensures if1.false mask-key.result mask-key.ensures trail.result trail.ensures if2.false if3.false _
+    (node_in trail.result.nodes _ wide.result _ wide.ensures w.path.all_nodes (omega (arith, d))) data_bit.result data_bit.ensures
+    (sym has-data-bit.ensures ∙ if4.true) _ taken.ensures
 
 pub returns : goal.returns
 returns c =
@@ -139,4 +147,7 @@ returns c =
     let r = remove_ready args.self args.nodes.now args.cells.now args.node_free.now args.cell_free.now args.key args.len edit_first.result edit_first.ensures if1.false in
     let w = on_trail args.nodes.now _ mask-key.result args.len trail.result trail.ensures r.look.short if2.false in
     let d : trail.result.depth ≤ 30 = trailed_depth _ _ _ _ _ r.look.short w in
-    remove_absent args.self args.nodes.now args.cells.now args.node_free.now args.cell_free.now args.key args.len edit_first.result edit_first.ensures if1.false mask-key.result mask-key.ensures trail.result trail.ensures if2.false if3.false _ (node_in trail.result.nodes _ wide.result _ wide.ensures w.path.all_nodes (omega (arith, d))) data_bit.result data_bit.ensures (sym has-data-bit.ensures ∙ if4.false) refused4.result refused4.ensures
+    remove_absent args.self args.nodes.now args.cells.now args.node_free.now args.cell_free.now args.key args.len
+    edit_first.result edit_first.ensures if1.false mask-key.result mask-key.ensures trail.result trail.ensures if2.false if3.false _
+    (node_in trail.result.nodes _ wide.result _ wide.ensures w.path.all_nodes (omega (arith, d))) data_bit.result data_bit.ensures
+    (sym has-data-bit.ensures ∙ if4.false) refused4.result refused4.ensures
