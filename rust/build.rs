@@ -6,7 +6,7 @@ use std::{env, fs};
 /// Names the folder that holds the library.
 const VARIABLE: &str = "HESTROVIK_LIB";
 
-/// That folder where the variable isn't set, seen from this crate: where the kit puts the library.
+/// That folder where the variable isn't set, seen from this crate: where `tools/prove` puts the library.
 const USUAL: &str = "../target/staticlib";
 
 /// The library's file.
