@@ -6,13 +6,7 @@ use map::State;
 use std::io;
 use std::io::Write;
 
-#[derive(Drop)]
-struct Turn {
-    more: bool,
-    state: State,
-}
-
-// One read, the answers to it, one write. Where a read fails, what came before it is answered first.
+// One read, the answers to it, one write: the state after, where more may come. Where a read fails, what came before it is answered first.
 fn one_turn(
     rt: &HostRuntime,
     s: State,
@@ -20,7 +14,7 @@ fn one_turn(
     cells: &mut [u32],
     node_free: &mut [u32],
     cell_free: &mut [u32],
-) -> io::Result<Turn> {
+) -> io::Result<Option<State>> {
     let mut input = [0u8; 49152];
     let (n, ended) = intake::read_full(&mut rt.stdin(), &mut input);
     let mut out = [0u8; 49152];
@@ -33,10 +27,7 @@ fn one_turn(
         output.write_all(&out[..12])?;
     }
     ended?;
-    Ok(Turn {
-        more: n == 49152,
-        state: state,
-    })
+    Ok((n == 49152).then_some(state))
 }
 
 fn run(
@@ -46,16 +37,13 @@ fn run(
     node_free: &mut [u32],
     cell_free: &mut [u32],
 ) -> io::Result<()> {
-    let start = State::fresh(nodes, cells, node_free, cell_free, 1024, 2048);
-    let mut s = start.state;
-    let mut turns = u64::MAX;
-    while 0 < turns {
-        let t = one_turn(rt, s, nodes, cells, node_free, cell_free)?;
-        if !t.more {
-            return Ok(());
+    let mut state = State::fresh(nodes, cells, node_free, cell_free, 1024, 2048).state;
+    // A proved loop ends: no run has so many turns.
+    for _ in 0..u64::MAX {
+        match one_turn(rt, state, nodes, cells, node_free, cell_free)? {
+            Some(after) => state = after,
+            None => break,
         }
-        s = t.state;
-        turns -= 1;
     }
     Ok(())
 }

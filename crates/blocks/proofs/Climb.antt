@@ -10,8 +10,7 @@ use lib.Dec.{eqb, lit<}
 use Rattle.tiers.specs.Tiers.{spacings}
 use Rattle.tiers.proofs.Sections.{start_zero, section_end}
 use Rattle.blocks.specs.declared.Pool.{Pool}
-use Rattle.blocks.specs.declared.Asked.{Asked}
-use Rattle.blocks.specs.Blocks.{free_of, section_of, first_out, within_of, ask_of, room_of, more_of, give_of}
+use Rattle.blocks.specs.Blocks.{Asked, free_of, section_of, first_out, within_of, ask_of, room_of, more_of, give_of}
 use Rattle.blocks.specs.Growth.{tier_in, move_ask_of, shrink_ask_of, shrink_of}
 use Rattle.blocks.specs.Asks.{ask_found, move_found, shrink_found}
 use Rattle.blocks.proofs.Moves.{more_other, give_other, room_zero}

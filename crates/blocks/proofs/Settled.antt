@@ -6,9 +6,8 @@ use Prim.Native.Nat.{ℕ, ◌+◌, ◌-◌}
 use borrow.Author.Tests.{eqb-true, eqb-false}
 use lib.Dec.{leb, eqb}
 use Rattle.blocks.specs.declared.Pool.{Pool}
-use Rattle.blocks.specs.declared.Asked.{Asked}
 use Rattle.blocks.specs.declared.Block.{Block}
-use Rattle.blocks.specs.Blocks.{ask_of, less_of, room_of, more_of, give_of, asked_as}
+use Rattle.blocks.specs.Blocks.{Asked, ask_of, less_of, room_of, more_of, give_of, asked_as}
 use Rattle.blocks.specs.Growth.{tier_in, move_ask_of, move_of, grow_ask_of, grow_of, shrink_ask_of, shrink_of}
 use Rattle.blocks.proofs.Moves.{take_pool}
 

@@ -11,9 +11,8 @@ use Rattle.tiers.specs.Tiers.{spacings, child_spacings, spacing_of, section_leng
 use Rattle.tiers.proofs.Tiers.{tier_first, tier_gt, same_tier}
 use Rattle.tiers.proofs.Sections.{start_zero, section_end, entry_lt}
 use Rattle.blocks.specs.declared.Pool.{Pool}
-use Rattle.blocks.specs.declared.Asked.{Asked}
 use Rattle.blocks.specs.declared.Block.{Block}
-use Rattle.blocks.specs.Blocks.{free_of, section_of, first_out, within_of, ask_of, less_of, take_of, room_of, more_of, give_of}
+use Rattle.blocks.specs.Blocks.{Asked, free_of, section_of, first_out, within_of, ask_of, less_of, take_of, room_of, more_of, give_of}
 use Rattle.blocks.specs.Growth.{tier_in, move_ask_of, move_of, grow_ask_of, grow_of, singles_of, chain_ask_of}
 use Rattle.blocks.specs.Asks.{ask_found, singles_found}
 use Rattle.blocks.proofs.Ways.{never}
@@ -179,18 +178,12 @@ module _ (p : Pool) (top lim : ℕ) (l : List ℕ) (old c : ℕ) (i : InShape p 
 
 -- ---- an insert's missing nodes
 
--- the growth's number decides where it isn't 0
-pub chain_stop :
-    (p : Pool) (top : ℕ) (l : List ℕ) (old c k : ℕ) (g : Asked) → g ≡ grow_ask_of p top p.mark l old c → (g.number ≡ 0 → ⊥) → g.number ≡ chain_ask_of p top l old c k
-unfolding chain_ask_of
-chain_stop p top l old c k g e h = simp (← e, ne_eqb _ 0 h)
-
--- else that of the singles, on the list as found, with the growth's own block as a spare
+-- where the growth is allowed, the number is that of the singles, on the list as found, with the growth's own block as a spare
 pub chain_go :
-    (p : Pool) (top : ℕ) (l : List ℕ) (old c k : ℕ) (g : Asked) (r : ℕ) → InShape p top l → g ≡ grow_ask_of p top p.mark l old c → g.number ≡ 0
-    → r ≡ singles_found (k - 1) g.pool top p.mark l (eqb c 1) → r ≡ chain_ask_of p top l old c k
+    (p : Pool) (top : ℕ) (l : List ℕ) (old c k : ℕ) (q : Pool) (r : ℕ) → InShape p top l → 0 ≡ (grow_ask_of p top p.mark l old c).number
+    → q ≡ (grow_ask_of p top p.mark l old c).pool → r ≡ singles_found (k - 1) q top p.mark l (eqb c 1) → r ≡ chain_ask_of p top l old c k
 unfolding chain_ask_of
-chain_go p top l old c k g r i e h q =
-    let n : (grow_ask_of p top p.mark l old c).number ≡ 0 = rw e at h in
+chain_go p top l old c k q r i h e v =
+    let n : (grow_ask_of p top p.mark l old c).number ≡ 0 = sym h in
     let t = singles_same (k - 1) (grow_of p top l old c).0.pool top p.mark l (grow_of p top l old c).1 (eqb c 1) (grow_agree p top p.mark l old c i n) in
-    rw (eq-eqb _ 0 n, t, ← (grow_pool p top p.mark l old c n), ← e) q
+    rw (eq-eqb _ 0 n, t, ← (grow_pool p top p.mark l old c n), ← e) v

@@ -2,8 +2,7 @@
 -- list doesn't show. proofs/Spare.antt (inserts) and proofs/Climb.antt (removals) show that these are the numbers of the steps. Assumes nothing.
 use Rattle.std.specs.Prelude.{ℕ, zero, suc, ◌-◌, Bool, false, cond, ◌&&◌, List, leb, eqb}
 use Rattle.blocks.specs.declared.Pool.{Pool}
-use Rattle.blocks.specs.declared.Asked.{Asked}
-use Rattle.blocks.specs.Blocks.{within_of, ask_of, less_of, room_of, more_of, asked_as}
+use Rattle.blocks.specs.Blocks.{Asked, within_of, ask_of, less_of, room_of, more_of, asked_as}
 use Rattle.blocks.specs.Growth.{tier_in}
 
 -- may a block of the tier be taken

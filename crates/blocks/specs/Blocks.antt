@@ -4,7 +4,11 @@ use Rattle.std.specs.Prelude.{ℕ, ◌+◌, ◌-◌, min, cond, List, get_or, se
 use Rattle.tiers.specs.Tiers.{spacings, spacing_of, section_start, section_length}
 use Rattle.blocks.specs.declared.Pool.{Pool}
 use Rattle.blocks.specs.declared.Block.{Block}
-use Rattle.blocks.specs.declared.Asked.{Asked}
+
+-- a number of document 01, and the pool after where it is 0
+pub record Asked : Type 0 where
+  pub number : ℕ
+  pub pool : Pool
 
 abbrev pub with_mark : Pool → ℕ → Pool
 with_mark p m = record { size = p.size; mark = m; free = p.free }

@@ -3,8 +3,7 @@ use Rattle.std.specs.Prelude.{ℕ, zero, suc, ◌+◌, ◌-◌, Bool, true, fals
 use Rattle.tiers.specs.Tiers.{spacings, tier_of, empty}
 use Rattle.blocks.specs.declared.Pool.{Pool}
 use Rattle.blocks.specs.declared.Block.{Block}
-use Rattle.blocks.specs.declared.Asked.{Asked}
-use Rattle.blocks.specs.Blocks.{within_of, ask_of, less_of, take_of, room_of, more_of, give_of, block_as, asked_as}
+use Rattle.blocks.specs.Blocks.{Asked, within_of, ask_of, less_of, take_of, room_of, more_of, give_of, block_as, asked_as}
 
 -- the tier of a count of items of a kind
 abbrev pub tier_in : ℕ → ℕ → ℕ

@@ -1,13 +1,16 @@
-// A block is taken, a free one before unused room; a block is returned. First the number, then what is done.
-ghost use Rattle.std.specs.Prelude.{◌≡◌, cond, ◌+◌, ◌*◌, ◌/◌, ◌^◌, ◌<◌, min, ltb, leb};
-ghost use Rattle.tiers.specs.Tiers.{spacings, spacing_of};
+// A block is taken, a free one before unused room; a block is returned. First whether it may be, then what is done.
+ghost use Rattle.std.specs.Prelude.{◌≡◌, cond, ◌+◌, ◌^◌, ◌<◌, min, ltb, leb};
+ghost use Rattle.refusals.specs.Numbers.{ended};
+ghost use Rattle.tiers.specs.Tiers.{spacings, spacing_of, section_length};
 ghost use Rattle.blocks.specs.Blocks.{first_out, take_out, put_in, ask_of, less_of, take_of, room_of, more_of, give_of};
 
-use crate::{Block, Pool, within};
-use tiers::{section_start_of, spacing_of, wide};
+use crate::{Block, Pool, ends_by, within};
+use refusals::Refusal;
+use tiers::{Kind, Tier, section_start_of, wide};
 use words::{put, read};
 
-// The free block that is taken first, of n in a section from `from` on: the last returned.
+// The free block that is taken first, of n in a section from `from` on: the last returned. (`from` is what section_start_of promises: a type
+// would only say that again.)
 fn first_out(list: &[u32], from: usize, n: u32) -> u32
     requires { (from < 2 ^ 35) × (0 < n) }
     ensures { result ≡ first_out list.now from n }
@@ -31,47 +34,46 @@ fn put_in(list: &mut [u32], from: usize, n: u32, start: u32)
     put(list, from + wide(n), start);
 }
 
-// Are n blocks of the spacing and one more too many for the pool? A product, not a division.
-fn full(size: u32, n: u32, spacing: u32) -> bool
-    ensures { result ≡ ltb size ((n + 1) * spacing) }
+// Has the tier's section room for one block more than n? A product, not a division.
+fn has_room<K: Kind>(size: u32, tier: Tier, n: u32) -> bool
+    ensures { result ≡ ltb n (section_length (spacings K.WIDEST) size tier) }
 {
-    wide(size) < (wide(n) + 1) * wide(spacing)
+    (wide(n) + 1) * wide(K::spacing(tier)) <= wide(size)
 }
 
-// One block more in a section that has n, its length at most.
-fn one_more(size: u32, n: u32, spacing: u32) -> u32
-    requires { 0 < spacing }
-    ensures { result ≡ min (size / spacing) (n + 1) }
+// One block more in the tier's section, which has n: its length at most.
+fn one_more<K: Kind>(size: u32, tier: Tier, n: u32) -> u32
+    ensures { result ≡ min (section_length (spacings K.WIDEST) size tier) (n + 1) }
 {
-    if full(size, n, spacing) {
-        return size / spacing;
+    if has_room::<K>(size, tier, n) {
+        n + 1
+    } else {
+        K::section_length(size, tier)
     }
-    n + 1
 }
 
 impl Pool {
-    // May a block of the tier be issued from the unused end: 0 or 4.
-    fn end_ask(self, top: u32, tier: usize) -> u32
-        requires { tier < 7 }
-        ensures { result ≡ cond (leb (self.mark + spacing_of (spacings top) tier) self.size) 0 4 }
+    // May a block of the tier be issued from the unused end?
+    fn end_ask<K: Kind>(self, tier: Tier) -> Result<(), Refusal>
+        ensures { ended result ≡ cond (leb (self.mark + spacing_of (spacings K.WIDEST) tier) self.size) 0 4 }
     {
-        if wide(self.mark) + wide(spacing_of(top, tier)) <= wide(self.size) {
-            return 0;
+        if ends_by::<K>(self.mark, tier, self.size) {
+            Ok(())
+        } else {
+            Err(Refusal::NoRoom)
         }
-        4
     }
 
-    // May a block of the tier be taken: 0, 4 or 5.
-    pub fn ask(self, top: u32, lim: u32, list: &[u32], tier: usize) -> u32
-        requires { tier < 7 }
-        ensures { result ≡ ask_of self top lim list.now tier }
+    // May a block of the tier be taken?
+    #[tactic(auto, unfolding(crate::specs::Blocks::ask_of))]
+    pub fn ask<K: Kind>(self, lim: u32, list: &[u32], tier: Tier) -> Result<(), Refusal>
+        ensures { ended result ≡ ask_of self K.WIDEST lim list.now tier }
     {
-        let n = self.free[tier];
+        let n = self.free[tier.number()];
         if n == 0 {
-            return self.end_ask(top, tier);
+            return self.end_ask::<K>(tier);
         }
-        within(
-            top,
+        within::<K>(
             lim,
             tier,
             first_out(list, section_start_of(self.size, tier), n),
@@ -79,84 +81,80 @@ impl Pool {
     }
 
     // The mark after a block of the tier is issued, the size at most.
-    fn issued(self, top: u32, tier: usize) -> u32
-        requires { tier < 7 }
-        ensures { result ≡ min self.size (self.mark + spacing_of (spacings top) tier) }
+    fn issued<K: Kind>(self, tier: Tier) -> u32
+        ensures { result ≡ min self.size (self.mark + spacing_of (spacings K.WIDEST) tier) }
     {
-        let spacing = spacing_of(top, tier);
-        if wide(self.size) < wide(self.mark) + wide(spacing) {
-            return self.size;
+        if ends_by::<K>(self.mark, tier, self.size) {
+            self.mark + K::spacing(tier)
+        } else {
+            self.size
         }
-        self.mark + spacing
     }
 
     // The pool after a block of the tier is taken.
-    pub fn less(self, top: u32, tier: usize) -> Pool
-        requires { tier < 7 }
-        ensures { result ≡ less_of self top tier }
+    #[tactic(auto, unfolding(crate::specs::Blocks::less_of))]
+    pub fn less<K: Kind>(self, tier: Tier) -> Pool
+        ensures { result ≡ less_of self K.WIDEST tier }
     {
-        let n = self.free[tier];
+        let n = self.free[tier.number()];
         let mut p = self;
         if n == 0 {
-            p.mark = self.issued(top, tier);
+            p.mark = self.issued::<K>(tier);
             return p;
         }
-        p.free[tier] = n - 1;
+        p.free[tier.number()] = n - 1;
         p
     }
 
     // A block of the tier is taken: a free one before unused room.
-    pub fn take(self, top: u32, list: &mut [u32], tier: usize) -> Block
-        requires { tier < 7 }
-        ensures { (result, list.new) ≡ take_of self top list.old tier }
+    #[tactic(auto, unfolding(crate::specs::Blocks::take_of))]
+    pub fn take<K: Kind>(self, list: &mut [u32], tier: Tier) -> Block
+        ensures { (result, list.new) ≡ take_of self K.WIDEST list.old tier }
     {
-        let n = self.free[tier];
-        let p = self.less(top, tier);
+        let n = self.free[tier.number()];
+        let pool = self.less::<K>(tier);
         if n == 0 {
             return Block {
                 start: self.mark,
-                pool: p,
+                pool,
             };
         }
         let from = section_start_of(self.size, tier);
-        let start = first_out(&list[..], from, n);
+        let start = first_out(list, from, n);
         take_out(list, from, n);
-        Block {
-            start: start,
-            pool: p,
-        }
+        Block { start, pool }
     }
 
-    // May the block be returned: 0, or 5 where its section is full or it isn't wholly below the mark as found.
-    pub fn room(self, top: u32, lim: u32, tier: usize, start: u32) -> u32
-        requires { (tier < 7) × (0 < top) }
-        ensures { result ≡ room_of self top lim tier start }
+    // May the block be returned: not where its section is full or it isn't wholly below the mark as found.
+    #[tactic(auto, unfolding(crate::specs::Blocks::room_of))]
+    pub fn room<K: Kind>(self, lim: u32, tier: Tier, start: u32) -> Result<(), Refusal>
+        ensures { ended result ≡ room_of self K.WIDEST lim tier start }
     {
-        let n = self.free[tier];
-        if full(self.size, n, spacing_of(top, tier)) {
-            return 5;
+        if has_room::<K>(self.size, tier, self.free[tier.number()]) {
+            within::<K>(lim, tier, start)
+        } else {
+            Err(Refusal::Broken)
         }
-        within(top, lim, tier, start)
     }
 
     // The pool after a block of the tier is returned.
-    pub fn more(self, top: u32, tier: usize) -> Pool
-        requires { (tier < 7) × (0 < top) }
-        ensures { result ≡ more_of self top tier }
+    #[tactic(auto, unfolding(crate::specs::Blocks::more_of))]
+    pub fn more<K: Kind>(self, tier: Tier) -> Pool
+        ensures { result ≡ more_of self K.WIDEST tier }
     {
-        let n = self.free[tier];
+        let n = self.free[tier.number()];
         let mut p = self;
-        p.free[tier] = one_more(self.size, n, spacing_of(top, tier));
+        p.free[tier.number()] = one_more::<K>(self.size, tier, n);
         p
     }
 
     // A block of the tier is returned.
-    pub fn give(self, top: u32, list: &mut [u32], tier: usize, start: u32) -> Pool
-        requires { (tier < 7) × (0 < top) }
-        ensures { (result, list.new) ≡ give_of self top list.old tier start }
+    #[tactic(auto, unfolding(crate::specs::Blocks::give_of))]
+    pub fn give<K: Kind>(self, list: &mut [u32], tier: Tier, start: u32) -> Pool
+        ensures { (result, list.new) ≡ give_of self K.WIDEST list.old tier start }
     {
-        let n = self.free[tier];
+        let n = self.free[tier.number()];
         put_in(list, section_start_of(self.size, tier), n, start);
-        self.more(top, tier)
+        self.more::<K>(tier)
     }
 }

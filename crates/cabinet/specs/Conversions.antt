@@ -3,7 +3,8 @@ use Rattle.std.specs.Prelude.{ℕ}
 use Rattle.map.specs.declared.State.{State}
 use Rattle.map.specs.declared.Answer.{Answer}
 use Rattle.map.specs.declared.Edited.{Edited}
-use Rattle.map.specs.Answers.{Values, values_of}
+use Rattle.map.specs.declared.Values.{Values}
+use Rattle.map.specs.Answers.{values_of}
 use Rattle.map.specs.Memory.{Memory, state_as}
 use Rattle.cabinet.specs.declared.CabinetState.{CabinetState}
 use Rattle.cabinet.specs.declared.CabinetAnswer.{CabinetAnswer}

@@ -1,91 +1,85 @@
 // Conversions between the map's own types and the structs that cross to C.
 ghost use Rattle.std.specs.Prelude.{◌≡◌};
-ghost use Rattle.cabinet.specs.Conversions.{state_of, state_told, answer_as, answered, edit_told};
+ghost use Rattle.cabinet.specs.Conversions.{state_of, state_told, values_told, answered, edit_told};
 
 use crate::{CabinetAnswer, CabinetEdit, CabinetState};
 use blocks::Pool;
-use map::{Answer, Edited, State};
+use map::{Answer, Edited, State, Values};
 
 // The map's state of a state from C.
-pub fn state_in(s: CabinetState) -> State
-    ensures { result ≡ state_of s }
-{
-    let f = s.node_free;
-    let g = s.cell_free;
-    State {
-        nodes: Pool {
-            size: s.node_size,
-            mark: s.node_mark,
-            free: f,
-        },
-        cells: Pool {
-            size: s.cell_size,
-            mark: s.cell_mark,
-            free: g,
-        },
-        rules: s.rules,
+impl From<CabinetState> for State {
+    ghost from_gives = { λ s r. r ≡ state_of s };
+
+    fn from(s: CabinetState) -> State {
+        let nodes = s.node_free;
+        let cells = s.cell_free;
+        State {
+            nodes: Pool {
+                size: s.node_size,
+                mark: s.node_mark,
+                free: nodes,
+            },
+            cells: Pool {
+                size: s.cell_size,
+                mark: s.cell_mark,
+                free: cells,
+            },
+            rules: s.rules,
+        }
     }
 }
 
 // The state for C of the map's state.
-pub fn state_out(s: State) -> CabinetState
-    ensures { result ≡ state_told s }
-{
-    let p = s.nodes;
-    let q = s.cells;
-    let f = p.free;
-    let g = q.free;
-    CabinetState {
-        node_size: p.size,
-        node_mark: p.mark,
-        node_free: f,
-        cell_size: q.size,
-        cell_mark: q.mark,
-        cell_free: g,
-        rules: s.rules,
+impl From<State> for CabinetState {
+    ghost from_gives = { λ s r. r ≡ state_told s };
+
+    fn from(s: State) -> CabinetState {
+        let node_free = s.nodes.free;
+        let cell_free = s.cells.free;
+        CabinetState {
+            node_size: s.nodes.size,
+            node_mark: s.nodes.mark,
+            node_free,
+            cell_size: s.cells.size,
+            cell_mark: s.cells.mark,
+            cell_free,
+            rules: s.rules,
+        }
     }
 }
 
-// An answer of these five.
-fn answer_as(number: u32, len: u32, nodes: u32, key: u32, value: u32) -> CabinetAnswer
-    ensures { result ≡ answer_as number len nodes key value }
-{
-    CabinetAnswer {
-        number: number,
-        len: len,
-        nodes: nodes,
-        key: key,
-        value: value,
+// Document 01's number and values, for C. (Structs for C are laid out of their own, so they are filled field by field.)
+impl From<Values> for CabinetAnswer {
+    ghost from_gives = { λ v r. r ≡ values_told v };
+
+    fn from(v: Values) -> CabinetAnswer {
+        CabinetAnswer {
+            number: v.number,
+            len: v.len,
+            nodes: v.nodes,
+            key: v.key,
+            value: v.value,
+        }
     }
 }
 
-// Document 01's number and values for an answer.
-pub fn answer_of(a: Answer) -> CabinetAnswer
-    ensures { result ≡ answered a }
-{
-    match a {
-        Answer::Started => answer_as(0, 0, 0, 0, 0),
-        Answer::Added(key, len) => answer_as(0, len, 0, key, 0),
-        Answer::Replaced(key, len, value) => answer_as(8, len, 0, key, value),
-        Answer::Removed(key, len, value) => answer_as(0, len, 0, key, value),
-        Answer::Found(key, len, value, nodes) => answer_as(0, len, nodes, key, value),
-        Answer::TooLong => answer_as(1, 0, 0, 0, 0),
-        Answer::Missing(nodes) => answer_as(2, 0, nodes, 0, 0),
-        Answer::WrongSlice => answer_as(3, 0, 0, 0, 0),
-        Answer::NoRoom => answer_as(4, 0, 0, 0, 0),
-        Answer::Broken => answer_as(5, 0, 0, 0, 0),
+// An answer, for C.
+impl From<Answer> for CabinetAnswer {
+    ghost from_gives = { λ a r. r ≡ answered a };
+
+    fn from(a: Answer) -> CabinetAnswer {
+        CabinetAnswer::from(a.values())
     }
 }
 
 // What an edit gives, for C.
-pub fn edit_of(e: Edited) -> CabinetEdit
-    ensures { result ≡ edit_told e }
-{
-    let a = e.answer;
-    let s = e.state;
-    let told = answer_of(a);
-    CabinetEdit {
-        state: state_out(s),
-        answer: told,
+impl From<Edited> for CabinetEdit {
+    ghost from_gives = { λ e r. r ≡ edit_told e };
+
+    fn from(e: Edited) -> CabinetEdit {
+        CabinetEdit {
+            state: CabinetState::from(e.state),
+            answer: CabinetAnswer::from(e.answer),
+        }
     }
 }

@@ -13,7 +13,6 @@ ghost use Rattle.map.specs.Removals.{remove_of};
 ghost use Rattle.map.specs.Lookups.{exact_of, longest_of, shortest_of};
 ghost use Rattle.cabinet.specs.Conversions.{state_of, answered, handed_on};
 
-use convert::{answer_of, edit_of, state_in};
 use map::State;
 
 // The map's state, its two pools side by side: sizes, issued marks, free counts by tier; and the rule count.
@@ -60,7 +59,7 @@ pub extern "C" fn cabinet_fresh(
 ) -> CabinetEdit
     ensures { (result, memory nodes.new cells.new node_free.new cell_free.new) ≡ handed_on (fresh_of (memory nodes.old cells.old node_free.old cell_free.old) n d) }
 {
-    edit_of(State::fresh(nodes, cells, node_free, cell_free, n, d))
+    CabinetEdit::from(State::fresh(nodes, cells, node_free, cell_free, n, d))
 }
 
 // Inserts a rule, or replaces its value.
@@ -77,8 +76,9 @@ pub extern "C" fn cabinet_insert(
 ) -> CabinetEdit
     ensures { (result, memory nodes.new cells.new node_free.new cell_free.new) ≡ handed_on (insert_of (state_of state) (memory nodes.old cells.old node_free.old cell_free.old) key len (cell_as value)) }
 {
-    let s = state_in(state);
-    edit_of(s.insert(nodes, cells, node_free, cell_free, key, len, value))
+    CabinetEdit::from(State::from(state).insert(
+        nodes, cells, node_free, cell_free, key, len, value,
+    ))
 }
 
 // Removes a rule.
@@ -94,8 +94,7 @@ pub extern "C" fn cabinet_remove(
 ) -> CabinetEdit
     ensures { (result, memory nodes.new cells.new node_free.new cell_free.new) ≡ handed_on (remove_of (state_of state) (memory nodes.old cells.old node_free.old cell_free.old) key len) }
 {
-    let s = state_in(state);
-    edit_of(s.remove(nodes, cells, node_free, cell_free, key, len))
+    CabinetEdit::from(State::from(state).remove(nodes, cells, node_free, cell_free, key, len))
 }
 
 // The rule of the query itself.
@@ -109,8 +108,7 @@ pub extern "C" fn cabinet_exact(
 ) -> CabinetAnswer
     ensures { result ≡ answered (exact_of (state_of state) nodes.now cells.now key len) }
 {
-    let s = state_in(state);
-    answer_of(s.exact(nodes, cells, key, len))
+    CabinetAnswer::from(State::from(state).exact(nodes, cells, key, len))
 }
 
 // The longest rule that covers the query.
@@ -124,8 +122,7 @@ pub extern "C" fn cabinet_longest(
 ) -> CabinetAnswer
     ensures { result ≡ answered (longest_of (state_of state) nodes.now cells.now key len) }
 {
-    let s = state_in(state);
-    answer_of(s.longest(nodes, cells, key, len))
+    CabinetAnswer::from(State::from(state).longest(nodes, cells, key, len))
 }
 
 // The covering rule of least length.
@@ -139,6 +136,5 @@ pub extern "C" fn cabinet_shortest(
 ) -> CabinetAnswer
     ensures { result ≡ answered (shortest_of (state_of state) nodes.now cells.now key len) }
 {
-    let s = state_in(state);
-    answer_of(s.shortest(nodes, cells, key, len))
+    CabinetAnswer::from(State::from(state).shortest(nodes, cells, key, len))
 }

@@ -9,10 +9,8 @@ use Rattle.node.specs.Nodes.{empty_node}
 use Rattle.blocks.specs.declared.Pool.{Pool}
 use Rattle.blocks.specs.Blocks.{within_of}
 use Rattle.blocks.specs.Growth.{tier_in, shrink_ask_of, shrink_of, fits_of}
-use Rattle.blocks.specs.Asks.{shrink_found}
 use Rattle.store.specs.Words.{save_node}
 use Rattle.store.specs.Moves.{narrow_cells, narrow_nodes}
-use Rattle.edits.specs.declared.removing.UpAsked.{UpAsked}
 use Rattle.edits.specs.Nodes.{with_rules, with_children}
 
 -- the node x loses a rule: its block is read for the value, then it shrinks by one
@@ -69,10 +67,3 @@ prune_of (suc i) p nodes f places path key bare =
     let x = get_or path i empty_node in
     let u = up_of p nodes f (get_or places i 0) x (stride * i) key in
     cond bare (prune_of i u.0 u.1 u.2 places path key (last_child x)) (p, nodes, f)
-
--- one parent as the code asks for it, on the list as found. `spare`: the parent below gave back a single node
-unfoldable pub up_found : Pool → ℕ → List ℕ → Bool → MultiBitNode → UpAsked
-up_found p lim l spare x =
-    let c = count x.child_bitmap in
-    let g = shrink_found p child_top lim l spare x.children_idx.0 c in
-    record { number = g.number; pool = g.pool; bare = last_child x; spare = leb c 1 }

@@ -6,29 +6,9 @@ use Prim.Native.Nat.{ℕ}
 use native.Mathlib.Omega.{arith}
 use Rattle.blocks.proofs.Ways.{never}
 
--- the first of three fails
-pub first_fails : (a b c : Bool) → a ≡ false → false ≡ a && b && c
-first_fails a b c e = simp e
-
--- the second fails
-pub second_fails : (a b c : Bool) → a ≡ true → b ≡ false → false ≡ a && b && c
-second_fails a b c e f = simp (e, f)
-
--- it is left to the third
-pub third_decides : (a b c : Bool) → a ≡ true → b ≡ true → c ≡ a && b && c
-third_decides a b c e f = simp (e, f)
-
 -- two tests that both hold
 pub both_hold : (a b : Bool) → a ≡ true → b ≡ true → a && b ≡ true
 both_hold a b e f = simp (e, f)
-
--- of which the first fails
-pub left_fails : (a b : Bool) → a ≡ false → a && b ≡ false
-left_fails a b e = simp e
-
--- of which the second fails
-pub right_fails : (a b : Bool) → a ≡ true → b ≡ false → a && b ≡ false
-right_fails a b e f = simp (e, f)
 
 -- where two tests hold, each does
 pub both : (a b : Bool) → a && b ≡ true → (a ≡ true) × (b ≡ true)
@@ -49,10 +29,6 @@ module _ (a b c : Bool) where
   -- then the length
   pub gives_1 : a ≡ true → b ≡ false → 1 ≡ number_of a b c
   gives_1 e f = simp (e, f)
-
-  -- then marks and counts
-  pub gives_5 : a ≡ true → b ≡ true → c ≡ false → 5 ≡ number_of a b c
-  gives_5 e f g = simp (e, f, g)
 
   -- nothing is wrong
   pub gives_0 : a ≡ true → b ≡ true → c ≡ true → 0 ≡ number_of a b c

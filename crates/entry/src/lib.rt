@@ -1,31 +1,31 @@
 // What stands before every call: number 3, number 1 and the first step's 5; and what a fresh start writes.
 #![tactic(auto)]
 
-ghost use Rattle.std.specs.Prelude.{◌≡◌};
+ghost use Rattle.std.specs.Prelude.{◌≡◌, cond, leb};
+ghost use Rattle.refusals.specs.Numbers.{ended};
+ghost use Rattle.prefix.specs.Prefix.{width};
 ghost use Rattle.entry.specs.First.{lookup_shaped, edit_shaped, sane_state, lookup_first, edit_first};
 ghost use Rattle.entry.specs.Fresh.{empty_nodes, zeros, pool_as};
 
 use blocks::Pool;
 use node::MultiBitNode;
-use tiers::{ChildPool, DataPool, wide};
+use refusals::Refusal;
+use store::Item;
+use tiers::{ChildPool, DataPool, Kind, is_pool_size, wide};
 
 // The slices of a lookup have just the words of n nodes and d cells.
+#[tactic(auto, unfolding(crate::specs::First::lookup_shaped))]
 pub fn lookup_shaped(n: u32, d: u32, nodes: usize, cells: usize) -> bool
     ensures { result ≡ lookup_shaped n d nodes cells }
 {
-    if !tiers::is_pool_size(n) {
-        return false;
-    }
-    if !tiers::is_pool_size(d) {
-        return false;
-    }
-    if nodes != wide(n) * wide(ChildPool::WORDS) {
-        return false;
-    }
-    cells == wide(d) * wide(DataPool::WORDS)
+    is_pool_size(n)
+        && is_pool_size(d)
+        && nodes == wide(n) * wide(ChildPool::WORDS)
+        && cells == wide(d) * wide(DataPool::WORDS)
 }
 
 // The slices of an edit have just the words of n nodes and d cells, and of their free lists.
+#[tactic(auto, unfolding(crate::specs::First::edit_shaped))]
 pub fn edit_shaped(
     n: u32,
     d: u32,
@@ -36,45 +36,55 @@ pub fn edit_shaped(
 ) -> bool
     ensures { result ≡ edit_shaped n d nodes cells node_free cell_free }
 {
-    if !lookup_shaped(n, d, nodes, cells) {
-        return false;
-    }
-    if node_free != ChildPool::free_list_length(n) {
-        return false;
-    }
-    cell_free == DataPool::free_list_length(d)
+    lookup_shaped(n, d, nodes, cells)
+        && node_free == ChildPool::free_list_length(n)
+        && cell_free == DataPool::free_list_length(d)
 }
 
-// No mark exceeds its pool, no free count its section, nor the rule count D.
+// No mark exceeds its pool, no free count its section, nor the rule count D. (The map's State is a type above this crate: its parts come
+// one by one, and so do the lengths of the lent slices.)
+#[tactic(auto, unfolding(crate::specs::First::sane_state))]
 pub fn is_sane(p: Pool, q: Pool, rules: u32) -> bool
     ensures { result ≡ sane_state p q rules }
 {
-    if !p.sane(ChildPool::WIDEST) {
-        return false;
-    }
-    if !q.sane(DataPool::WIDEST) {
-        return false;
-    }
-    rules <= q.size
+    p.sane::<ChildPool>() && q.sane::<DataPool>() && rules <= q.size
 }
 
-// The number of a lookup that is refused before its walk, else 0.
-pub fn lookup_first(p: Pool, q: Pool, rules: u32, nodes: usize, cells: usize, len: u32) -> u32
-    ensures { result ≡ lookup_first p q rules nodes cells len }
+// What every call tests after its slices: the length, then marks and counts.
+fn begin(p: Pool, q: Pool, rules: u32, len: u32) -> Result<(), Refusal>
+    ensures { ended result ≡ cond (leb len width) (cond (sane_state p q rules) 0 5) 1 }
 {
-    if !lookup_shaped(p.size, q.size, nodes, cells) {
-        return 3;
-    }
     if 32 < len {
-        return 1;
+        Err(Refusal::TooLong)
+    } else if is_sane(p, q, rules) {
+        Ok(())
+    } else {
+        Err(Refusal::Broken)
     }
-    if is_sane(p, q, rules) {
-        return 0;
-    }
-    5
 }
 
-// The number of an edit that is refused before its walk, else 0.
+// Why a lookup is refused before its walk, if it is.
+#[inline]
+#[tactic(auto, unfolding(crate::specs::First::lookup_first))]
+pub fn lookup_first(
+    p: Pool,
+    q: Pool,
+    rules: u32,
+    nodes: usize,
+    cells: usize,
+    len: u32,
+) -> Result<(), Refusal>
+    ensures { ended result ≡ lookup_first p q rules nodes cells len }
+{
+    if lookup_shaped(p.size, q.size, nodes, cells) {
+        begin(p, q, rules, len)
+    } else {
+        Err(Refusal::WrongSlice)
+    }
+}
+
+// Why an edit is refused before its walk, if it is.
+#[tactic(auto, unfolding(crate::specs::First::edit_first))]
 pub fn edit_first(
     p: Pool,
     q: Pool,
@@ -85,29 +95,23 @@ pub fn edit_first(
     cell_free: usize,
     key: u32,
     len: u32,
-) -> u32
-    ensures { result ≡ edit_first p q rules nodes cells node_free cell_free key len }
+) -> Result<(), Refusal>
+    ensures { ended result ≡ edit_first p q rules nodes cells node_free cell_free key len }
 {
-    if !edit_shaped(p.size, q.size, nodes, cells, node_free, cell_free) {
-        return 3;
+    if edit_shaped(p.size, q.size, nodes, cells, node_free, cell_free) {
+        begin(p, q, rules, len)
+    } else {
+        Err(Refusal::WrongSlice)
     }
-    if 32 < len {
-        return 1;
-    }
-    if is_sane(p, q, rules) {
-        return 0;
-    }
-    5
 }
 
 // The first n nodes become empty.
+#[tactic(auto, using(crate::proofs::Ways::empty_more), unfolding(crate::specs::Fresh::empty_nodes))]
 pub fn clear_nodes(nodes: &mut [u32], n: u32)
     ensures { nodes.new ≡ empty_nodes n nodes.old }
 {
-    let mut i: u32 = 0;
-    while i < n {
-        store::save_node(nodes, wide(i), MultiBitNode::empty());
-        i += 1;
+    for i in 0..n {
+        MultiBitNode::empty().save(nodes, wide(i));
     }
 }
 
@@ -115,11 +119,7 @@ pub fn clear_nodes(nodes: &mut [u32], n: u32)
 pub fn clear_words(words: &mut [u32])
     ensures { words.new ≡ zeros words.old }
 {
-    let mut i: usize = 0;
-    while i < words.len() {
-        words[i] = 0;
-        i += 1;
-    }
+    words.fill(0);
 }
 
 // A pool with the first `mark` places issued and nothing free.
@@ -127,8 +127,8 @@ pub fn new_pool(size: u32, mark: u32) -> Pool
     ensures { result ≡ pool_as size mark }
 {
     Pool {
-        size: size,
-        mark: mark,
+        size,
+        mark,
         free: [0; 7],
     }
 }

@@ -14,6 +14,7 @@ use Rattle.tiers.specs.Tiers.{stride}
 use Rattle.places.specs.Places.{data_bit}
 use Rattle.node.specs.declared.MultiBitNode.{MultiBitNode}
 use Rattle.store.specs.declared.Cell.{Cell}
+use Rattle.std.specs.Prelude.{Ok}
 use Rattle.walk.specs.declared.Trail.{Trail}
 use Rattle.walk.specs.Trails.{trail_of}
 use Rattle.edits.specs.Removing.{last_rule}
@@ -21,7 +22,7 @@ use Rattle.map.specs.declared.State.{State}
 use Rattle.map.specs.declared.Answer.TheVariants.{NoRoom, Missing, Removed}
 use Rattle.map.specs.declared.Edited.{Edited}
 use Rattle.map.specs.Memory.{Memory, refuse}
-use Rattle.map.specs.Removals.{taken_of, remove_of}
+use Rattle.map.specs.Removals.{taken_of, remove_of, walked_of}
 use Rattle.rules.specs.Rules.{Rules, del, value_at, is_some, IsPrefix}
 use Rattle.rules.specs.Nodes.{depth, node_count}
 use Rattle.rules.specs.Ledger.{Ledger, emptied, remove_room, entered}
@@ -129,18 +130,21 @@ module _ {N D : ℕ} {g : Ledger Cell} {s : State} {m : Memory} (b : Booked N D 
   abbrev deepest : ℕ
   deepest = node_count g.rules k len - 1
 
-  abbrev trail : Trail
-  trail = trail_of m.nodes s.nodes.mark k len
+  found : (t : Trail) × (trail_of m.nodes s.nodes.mark k len ≡ Ok t) × Walked b.E b.R b.es b.vs k (node_count g.rules k len) t
+  found = trail_is b.image b.proper b.tree k len (masked_prefix key len prefix)
 
-  walked : Walked b.E b.R b.es b.vs k (node_count g.rules k len) trail
-  walked = trail_is b.image b.proper b.tree k len (masked_prefix key len prefix)
+  abbrev trail : Trail
+  trail = found.0
+
+  abbrev walked : Walked b.E b.R b.es b.vs k (node_count g.rules k len) found.0
+  walked = found.2
 
   walks : remove_of s m key len ≡ ends b k len (masked_prefix key len prefix) (masked_again key len) trail deepest
-  unfolding remove_of
+  unfolding remove_of walked_of
   walks =
       let z : depth deepest / stride ≡ deepest = omega arith in
       let r = count_root g.rules k len in
-      rw (edit_first_lem b key len prefix.short, walked.sound, walked.ends, z, walked.path.node deepest (omega arith)) refl
+      rw (edit_first_lem b key len prefix.short, found.1, walked.ends, z, walked.path.node deepest (omega arith)) refl
 
   -- A REMOVAL leaves what the ledger says: not stored, removed, or refused for room exactly where a block can't be supplied
   pub remove_done : (o : Option Cell) → value_at g.rules key len ≡ o

@@ -7,11 +7,13 @@ use native.Mathlib.Omega.{arith}
 use lib.Dec.{eqb}
 use Rattle.prefix.specs.Prefix.{masked}
 use Rattle.store.specs.declared.Cell.{Cell}
+use Rattle.std.specs.Prelude.{Result}
+use Rattle.refusals.specs.declared.Refusal.{Refusal}
 use Rattle.walk.specs.declared.Sight.{Sight}
 use Rattle.walk.specs.Lookups.{exact_sight, longest_sight, shortest_sight}
 use Rattle.map.specs.declared.State.{State}
 use Rattle.map.specs.Memory.{Memory, refusal}
-use Rattle.map.specs.Lookups.{answer_of, lookup_of, exact_of, longest_of, shortest_of}
+use Rattle.map.specs.Lookups.{answer_of, told_of, lookup_of, exact_of, longest_of, shortest_of}
 use Rattle.rules.specs.Rules.{value_at, IsPrefix, nothing, found}
 use Rattle.rules.specs.Rules as rules
 use Rattle.rules.specs.Nodes.{node_count, shortest_count}
@@ -29,16 +31,16 @@ module _ {N D : ℕ} {g : Ledger Cell} {s : State} {m : Memory} (b : Booked N D 
   Fair a = (k l : ℕ) (v : Cell) → a ≡ found k l v → (k ≡ masked key l) × (l ≤ len) × (value_at g.rules key l ≡ some v)
 
   -- what is seen is told
-  seen : (a : rules.Answer Cell) (n : ℕ) (sight : Sight) → Sighted b.E b.R b.es b.vs key a n sight → Fair a
+  seen : (a : rules.Answer Cell) (n : ℕ) (sight : Result Sight Refusal) → Sighted b.E b.R b.es b.vs key a n sight → Fair a
       → answer_of sight m.cells s.cells.mark key ≡ told a n
-  unfolding answer_of
+  unfolding answer_of told_of
   seen nothing n sight e f = rw e refl
   seen (found k l v) n sight e f =
       let w = f k l v refl in
       let c = cell_there b.image b.proper b.tree key l v (record { bits = prefix.bits; short = omega (arith, prefix.short, w.1) }) w.2 in
       rw (e, c.0, c.1, w.0) refl
 
-  tells : (a : rules.Answer Cell) (n : ℕ) (sight : Sight) → Sighted b.E b.R b.es b.vs key a n sight → Fair a
+  tells : (a : rules.Answer Cell) (n : ℕ) (sight : Result Sight Refusal) → Sighted b.E b.R b.es b.vs key a n sight → Fair a
       → lookup_of s m.nodes m.cells key len sight ≡ told a n
   tells a n sight e f =
       ap (λ (x : ℕ). cond (eqb x 0) (answer_of sight m.cells s.cells.mark key) (refusal x)) (look_first b len prefix.short) ∙ seen a n sight e f

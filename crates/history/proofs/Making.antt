@@ -19,12 +19,14 @@ use Rattle.node.specs.declared.MultiBitNode.{MultiBitNode}
 use Rattle.node.specs.Nodes.{empty_node}
 use Rattle.blocks.specs.Growth.{grow_ask_of, chain_ask_of}
 use Rattle.store.specs.declared.Cell.{Cell}
+use Rattle.std.specs.Prelude.{Ok}
+use Rattle.walk.specs.declared.Trail.{Trail}
 use Rattle.walk.specs.Trails.{trail_of}
 use Rattle.edits.specs.Adding.{keep_of, make_of}
 use Rattle.map.specs.declared.State.{State}
 use Rattle.map.specs.declared.Answer.TheVariants.{NoRoom}
 use Rattle.map.specs.Memory.{Memory, memory, state_as}
-use Rattle.map.specs.Inserts.{replace_of, here_of, below_of, arrived_of, insert_of}
+use Rattle.map.specs.Inserts.{replace_of, here_of, below_of, arrived_of, insert_of, walked_of}
 use Rattle.rules.specs.Rules.{Rules, put, value_at, is_some, IsPrefix}
 use Rattle.rules.specs.Nodes.{depth, node_count}
 use Rattle.rules.specs.Account.{Kind, node_pool, cell_pool, Account, Move, run}
@@ -204,17 +206,20 @@ module _ {N D : ℕ} {g : Ledger Cell} {s : State} {m : Memory} (b : Booked N D 
   abbrev last : ℕ
   last = node_count g.rules k len - 1
 
-  walked : Walked b.E b.R b.es b.vs k (node_count g.rules k len) (trail_of m.nodes s.nodes.mark k len)
-  walked = trail_is b.image b.proper b.tree k len (masked_prefix key len prefix)
+  found : (t : Trail) × (trail_of m.nodes s.nodes.mark k len ≡ Ok t) × Walked b.E b.R b.es b.vs k (node_count g.rules k len) t
+  found = trail_is b.image b.proper b.tree k len (masked_prefix key len prefix)
+
+  abbrev walked : Walked b.E b.R b.es b.vs k (node_count g.rules k len) found.0
+  walked = found.2
 
   -- the walk of an insert ends at the last node of its path that is there
   walks : insert_of s m key len v
       ≡ arrived_of s m k len v (place_of b.E b.es (path_no k last)) (depth last) (node_of b.E b.R b.es b.vs (path_no k last))
-  unfolding insert_of
+  unfolding insert_of walked_of
   walks =
       let z : depth last / stride ≡ last = omega arith in
       let r = count_root g.rules k len in
-      rw (edit_first_lem b key len prefix.short, walked.sound, walked.ends, z, walked.path.place last (omega arith), walked.path.node last (omega arith)) refl
+      rw (edit_first_lem b key len prefix.short, found.1, walked.ends, z, walked.path.place last (omega arith), walked.path.node last (omega arith)) refl
 
   -- AN INSERT leaves what the ledger says: added, replaced, or refused for room exactly where a block can't be supplied
   pub insert_done : Done N D (cond (insert_room N D g key len) (entered N D (put key len v) g) g)

@@ -13,7 +13,8 @@ use Rattle.map.specs.declared.State.{State}
 use Rattle.map.specs.declared.Answer.{Answer}
 use Rattle.map.specs.declared.Answer.TheVariants.{TooLong, NoRoom}
 use Rattle.map.specs.Memory.{Memory}
-use Rattle.map.specs.Answers.{Values, values_of}
+use Rattle.map.specs.declared.Values.{Values}
+use Rattle.map.specs.Answers.{values_of}
 use Rattle.rules.specs.Rules.{value_at}
 use Rattle.rules.specs.Rules as rules
 use Rattle.rules.specs.Nodes.{node_count, shortest_count}

@@ -8,6 +8,8 @@ use Rattle.prefix.specs.Prefix.{width}
 use Rattle.store.specs.declared.Cell.{Cell}
 use Rattle.entry.specs.First.{lookup_first, edit_first}
 use Rattle.entry.proofs.Ways.{lookup_1, edit_1}
+use Rattle.std.specs.Prelude.{Result}
+use Rattle.refusals.specs.declared.Refusal.{Refusal}
 use Rattle.walk.specs.declared.Sight.{Sight}
 use Rattle.map.specs.declared.State.{State}
 use Rattle.map.specs.declared.Answer.TheVariants.{TooLong}
@@ -25,7 +27,7 @@ picked n x f e = rw e refl
 
 module _ {N D : ℕ} {g : Ledger Cell} {s : State} {m : Memory} (b : Booked N D g s m) (key len : ℕ) (h : width < len) where
   -- a lookup
-  pub lookup_long : (sight : Sight) → lookup_of s m.nodes m.cells key len sight ≡ TooLong
+  pub lookup_long : (sight : Result Sight Refusal) → lookup_of s m.nodes m.cells key len sight ≡ TooLong
   lookup_long sight =
       picked (lookup_first s.nodes s.cells s.rules (length m.nodes) (length m.cells) len) (answer_of sight m.cells s.cells.mark key) refusal
       (sym (lookup_1 s.nodes s.cells s.rules (length m.nodes) (length m.cells) len (look_shaped b) h))

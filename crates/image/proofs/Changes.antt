@@ -18,7 +18,7 @@ use Rattle.store.specs.declared.Cell.{Cell}
 use Rattle.store.specs.Words.{cell_at, empty_cell, node_at, save_node}
 use Rattle.store.specs.Moves.{run_of, open_of, close_of, widen_cells, narrow_cells, widen_nodes, narrow_nodes}
 use Rattle.store.proofs.Items.{Items, cells, nodes}
-use Rattle.store.proofs.Moves.{move_of}
+use Rattle.store.specs.Moves.{move_of}
 use Rattle.store.proofs.Blocks.{GrowsInto, Apart, grows, grows_into, shrinks, shrinks_into}
 use Rattle.edits.specs.Nodes.{with_rules, with_children}
 use Rattle.pools.specs.Items.{upd, items, place_of}

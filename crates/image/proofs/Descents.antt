@@ -10,7 +10,7 @@ use Rattle.tiers.specs.Tiers.{stride}
 use Rattle.blocks.specs.declared.Pool.{Pool}
 use Rattle.store.specs.declared.Cell.{Cell}
 use Rattle.store.specs.Words.{node_at}
-use Rattle.walk.specs.declared.Step.TheVariants.{Down, End}
+use Rattle.std.specs.Prelude.{Some, None, Ok}
 use Rattle.walk.specs.Steps.{step_of}
 use Rattle.walk.proofs.Turns.{Standing}
 use Rattle.rules.specs.Rules.{Rules, IsPrefix}
@@ -73,20 +73,20 @@ module _ {p : Pool} {nodes nf : List ℕ} {q : Pool} {cells cf : List ℕ} {E D 
 
     -- a step from a counted level goes down where the next is counted, and ends elsewhere
     walk_step : (j : ℕ) → j < N
-        → step_of p.mark key len (depth j) (node_of E D es vs (path_no key j)) ≡ cond (ltb (suc j) N) (Down (place_of E es (path_no key (suc j)))) End
+        → step_of p.mark key len (depth j) (node_of E D es vs (path_no key j)) ≡ cond (ltb (suc j) N) (Ok (Some (place_of E es (path_no key (suc j))))) (Ok None)
     walk_step j h =
         node_step image key len j (omega (arith, level_le j h, pre.short)) pre.short
-        ∙ ap (λ (b : Bool). cond b (Down (place_of E es (path_no key (suc j)))) End) (go (leb (depth (suc j)) len) refl)
+        ∙ ap (λ (b : Bool). cond b (Ok (Some (place_of E es (path_no key (suc j))))) (Ok None)) (go (leb (depth (suc j)) len) refl)
       where
         go : (b : Bool) → leb (depth (suc j)) len ≡ b → b && E (path_no key (suc j)) ≡ ltb (suc j) N
         go true e = counted_there (suc j) (omega (arith, leb-true (depth (suc j)) len e))
         go false e = sym (le-ltb (suc j) N (omega (arith, leb-false (depth (suc j)) len e, count_path rs key len pre.short)))
 
     -- it ends at the last counted level
-    pub walk_end : (j : ℕ) → suc j ≡ node_count rs key len → step_of p.mark key len (depth j) (node_of E D es vs (path_no key j)) ≡ End
+    pub walk_end : (j : ℕ) → suc j ≡ node_count rs key len → step_of p.mark key len (depth j) (node_of E D es vs (path_no key j)) ≡ Ok None
     walk_end j e = walk_step j (omega arith) ∙ rw (le-ltb (suc j) N (omega arith))
 
     -- and goes down before it
     pub walk_down : (j : ℕ) → suc j < node_count rs key len
-        → step_of p.mark key len (depth j) (node_of E D es vs (path_no key j)) ≡ Down (place_of E es (path_no key (suc j)))
+        → step_of p.mark key len (depth j) (node_of E D es vs (path_no key j)) ≡ Ok (Some (place_of E es (path_no key (suc j))))
     walk_down j h = walk_step j (omega arith) ∙ rw (lt-ltb (suc j) N h)

@@ -15,8 +15,11 @@ use Rattle.places.specs.Places.{data_bit}
 use Rattle.places.proofs.Prefixes.{data_length}
 use Rattle.node.proofs.Matches.{Held}
 use Rattle.store.specs.declared.Cell.{Cell}
+use Rattle.std.specs.Prelude as std
+use Rattle.std.specs.Prelude.{Some, None, Result, Ok}
+use Rattle.refusals.specs.declared.Refusal.{Refusal}
+use Rattle.walk.specs.declared.Rule.{Rule}
 use Rattle.walk.specs.declared.Sight.{Sight}
-use Rattle.walk.specs.declared.Sight.TheVariants.{Missing, Rule}
 use Rattle.walk.specs.Lookups.{rule_in}
 use Rattle.rules.specs.Rules.{Rules, value_at, is_live, Answer, nothing, found, IsPrefix}
 use Rattle.rules.specs.Nodes.{depth, node_count}
@@ -28,21 +31,27 @@ use Rattle.image.specs.Image.{node_of}
 use Rattle.image.proofs.Answers.{none_of}
 use Rattle.image.proofs.Cells.{node_for, data_live}
 
--- the sight of the key's rule of length l, with n nodes visited
-abbrev pub sight_of : (E D : ℕ → Bool) (es vs : ℕ → ℕ) → ℕ → ℕ → ℕ → Sight
-sight_of E D es vs key l n = Rule (node_for E D es vs key l).data_idx (node_for E D es vs key l).data_bitmap (data_bit key l) l n
+-- a rule or none, seen with n nodes visited
+abbrev pub seen : std.Option Rule → ℕ → Result Sight Refusal
+seen rule n = Ok (record { rule = rule; visits = n })
+
+-- the key's rule of length l
+abbrev pub rule_for : (E D : ℕ → Bool) (es vs : ℕ → ℕ) → ℕ → ℕ → Rule
+rule_for E D es vs key l =
+    record { cells = (node_for E D es vs key l).data_idx; bitmap = (node_for E D es vs key l).data_bitmap; bit = data_bit key l; len = l }
 
 -- a lookup of the key sees its answer: with n nodes visited, no rule, or the rule's cells, bitmap, data bit and length
-abbrev pub Sighted : (E D : ℕ → Bool) (es vs : ℕ → ℕ) → ℕ → Answer Cell → ℕ → Sight → Type 0
-Sighted E D es vs key nothing n sight = sight ≡ Missing n
-Sighted E D es vs key (found k l v) n sight = sight ≡ sight_of E D es vs key l n
+abbrev pub Sighted : (E D : ℕ → Bool) (es vs : ℕ → ℕ) → ℕ → Answer Cell → ℕ → Result Sight Refusal → Type 0
+Sighted E D es vs key nothing n sight = sight ≡ seen None n
+Sighted E D es vs key (found k l v) n sight = sight ≡ seen (Some (rule_for E D es vs key l)) n
 
 -- the rule of a length that lives at level j, told from the node of the key's path there
-pub rule_sight : (E D : ℕ → Bool) (es vs : ℕ → ℕ) (key j l n : ℕ) → l / stride ≡ j
-    → rule_in (node_of E D es vs (path_no key j)) (depth j) (data_bit key l) n ≡ sight_of E D es vs key l n
-rule_sight E D es vs key j l n e =
-    subst (λ (i : ℕ). rule_in (node_of E D es vs (path_no key i)) (depth i) (data_bit key l) n ≡ sight_of E D es vs key l n) e
-    (ap (λ (m : ℕ). Rule (node_for E D es vs key l).data_idx (node_for E D es vs key l).data_bitmap (data_bit key l) m n) (data_length key l))
+pub rule_sight : (E D : ℕ → Bool) (es vs : ℕ → ℕ) (key j l : ℕ) → l / stride ≡ j
+    → rule_in (node_of E D es vs (path_no key j)) (depth j) (data_bit key l) ≡ rule_for E D es vs key l
+rule_sight E D es vs key j l e =
+    let x = node_for E D es vs key l in
+    subst (λ (i : ℕ). rule_in (node_of E D es vs (path_no key i)) (depth i) (data_bit key l) ≡ rule_for E D es vs key l) e
+    (ap (λ (m : ℕ). record { cells = x.data_idx; bitmap = x.data_bitmap; bit = data_bit key l; len = m }) (data_length key l))
 
 -- ---- the lengths that a walk has read
 

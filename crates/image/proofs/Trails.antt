@@ -1,6 +1,6 @@
--- The trail of an edit over an image: sound, as deep as the node count says, each node of the path with its place. Assumes nothing.
+-- The trail of an edit over an image: as deep as the node count says, each node of the path with its place. Assumes nothing.
 use mathlib.Core.Path.{◌≡◌, refl, sym, ◌∙◌, subst}
-use mathlib.Core.Bool.{Bool, true}
+use mathlib.Core.Bool.{Bool}
 use mathlib.Core.List.{List}
 use Prim.Native.Nat.{ℕ, suc, ◌-◌, ◌/◌, ◌<◌}
 use native.Mathlib.Omega.{arith}
@@ -12,6 +12,7 @@ use Rattle.node.specs.declared.MultiBitNode.{MultiBitNode}
 use Rattle.node.specs.Nodes.{empty_node}
 use Rattle.blocks.specs.declared.Pool.{Pool}
 use Rattle.store.specs.declared.Cell.{Cell}
+use Rattle.std.specs.Prelude.{Ok}
 use Rattle.walk.specs.declared.Trail.{Trail}
 use Rattle.walk.specs.Trails.{trail_from, trail_of, no_places, no_nodes}
 use Rattle.walk.proofs.Turns.{left, trail_root, trail_end, trail_down}
@@ -36,7 +37,6 @@ pub record Filled (E D : ℕ → Bool) (es vs : ℕ → ℕ) (key n : ℕ) (ps :
 
 -- an edit's walk went down all n nodes that its path has
 pub record Walked (E D : ℕ → Bool) (es vs : ℕ → ℕ) (key n : ℕ) (t : Trail) : Type 0 where
-  pub sound : t.sound ≡ true
   pub ends : t.depth ≡ depth (n - 1)
   pub path : Filled E D es vs key n t.places t.nodes
 
@@ -69,7 +69,7 @@ module _ {p : Pool} {nodes nf : List ℕ} {q : Pool} {cells cf : List ℕ} {E D 
     abbrev From : ℕ → ℕ → ℕ → Type 0
     From at d j =
         (ps : List ℕ) (xs : List MultiBitNode) → Filled E D es vs key j ps xs
-        → Walked E D es vs key N (trail_from (left d) nodes p.mark key len at d ps xs)
+        → (t : Trail) × (trail_from (left d) nodes p.mark key len at d ps xs ≡ Ok t) × Walked E D es vs key N t
 
     -- one level more
     filled : (j : ℕ) → j < N → {ps : List ℕ} {xs : List MultiBitNode} → Filled E D es vs key j ps xs
@@ -80,22 +80,25 @@ module _ {p : Pool} {nodes nf : List ℕ} {q : Pool} {cells cf : List ℕ} {E D 
     last j e ps xs f =
         let h : j < N = omega arith in
         let i : j ≡ depth j / stride = omega arith in
-        subst (Walked E D es vs key N)
-        (trail_end nodes key (walk_stands image tree key len pre j h) (walk_node image tree key len pre j h) (sym (node_whole image (path_no key j))) ps xs i refl refl (walk_end image tree key len pre j e))
-        (record { sound = refl; ends = omega arith; path = rw e at (filled j h f) })
+        let v = walk_stands image tree key len pre j h in
+        let ends = trail_end nodes key v (walk_node image tree key len pre j h) ps xs i (node_whole image (path_no key j)) refl (walk_end image tree key len pre j e) in
+        (_, sym ends, record { ends = omega arith; path = rw e at (filled j h f) })
 
     on_down : (j : ℕ) → suc j < N → From (place_of E es (path_no key (suc j))) (depth (suc j)) (suc j) → From (place_of E es (path_no key j)) (depth j) j
     on_down j l ih ps xs f =
         let h : j < N = omega arith in
         let i : j ≡ depth j / stride = omega arith in
-        subst (Walked E D es vs key N)
-        (trail_down nodes key (walk_stands image tree key len pre j h) (walk_node image tree key len pre j h) (sym (node_whole image (path_no key j))) ps xs i refl refl _ (walk_down image tree key len pre j l))
-        (subst (λ (d : ℕ). From (place_of E es (path_no key (suc j))) d (suc j)) (depth_next j) ih _ _ (filled j h f))
+        let v = walk_stands image tree key len pre j h in
+        let down = trail_down nodes key v (walk_node image tree key len pre j h) ps xs i (node_whole image (path_no key j)) refl _ (walk_down image tree key len pre j l) in
+        let on = subst (λ (d : ℕ). From (place_of E es (path_no key (suc j))) d (suc j)) (depth_next j) ih _ _ (filled j h f) in
+        (on.0, sym down ∙ on.1, on.2)
 
     -- the trail of an edit holds the path's nodes with their places, as many as the node count says
-    pub trail_is : Walked E D es vs key (node_count rs key len) (trail_of nodes p.mark key len)
+    pub trail_is : (t : Trail) × (trail_of nodes p.mark key len ≡ Ok t) × Walked E D es vs key (node_count rs key len) t
     trail_is =
-        subst (Walked E D es vs key N) (trail_root nodes p.mark key len empty_node refl (λ z. omega (arith, mark_some image)))
-        (subst (λ (at : ℕ). From at 0 0) (walk_root image tree key len pre)
+        let on =
+        subst (λ (at : ℕ). From at 0 0) (walk_root image tree key len pre)
         (from_last N (λ j. From (place_of E es (path_no key j)) (depth j) j) last on_down 0 (count_root rs key len)) no_places no_nodes
-        (record { all_places = refl; all_nodes = refl; place = λ i h. absurd (omega arith); node = λ i h. absurd (omega arith) }))
+        (record { all_places = refl; all_nodes = refl; place = λ i h. absurd (omega arith); node = λ i h. absurd (omega arith) })
+        in
+        (on.0, sym (trail_root nodes p.mark key len empty_node refl (λ z. omega (arith, mark_some image))) ∙ on.1, on.2)

@@ -15,7 +15,7 @@ use Rattle.places.proofs.Children.{child_lt}
 use Rattle.blocks.specs.declared.Pool.{Pool}
 use Rattle.store.specs.declared.Cell.{Cell}
 use Rattle.store.specs.Words.{node_at}
-use Rattle.walk.specs.declared.Step.TheVariants.{Down, End}
+use Rattle.std.specs.Prelude.{Some, None, Ok}
 use Rattle.walk.specs.Steps.{sound_of, step_of, children_within}
 use Rattle.walk.proofs.Steps.{step_deep, step_none, step_down}
 use Rattle.rules.specs.Sums.{sum}
@@ -55,25 +55,25 @@ module _ {p : Pool} {nodes nf : List ℕ} {q : Pool} {cells cf : List ℕ} {E D 
     -- the child of a node that a key goes on to
     step_child : (n key len d : ℕ) → d + stride ≤ len
         → step_of p.mark key len d (node_of E D es vs n)
-        ≡ cond (E (32 * n + child_bit d key)) (Down (place_of E es (32 * n + child_bit d key))) End
+        ≡ cond (E (32 * n + child_bit d key)) (Ok (Some (place_of E es (32 * n + child_bit d key)))) (Ok None)
     unfolding node_of children_within
     step_child n key len d h = go (E (32 * n + child_bit d key)) refl
       where
-        go : (b : Bool) → E (32 * n + child_bit d key) ≡ b → step_of p.mark key len d (node_of E D es vs n) ≡ cond b (Down (place_of E es (32 * n + child_bit d key))) End
+        go : (b : Bool) → E (32 * n + child_bit d key) ≡ b → step_of p.mark key len d (node_of E D es vs n) ≡ cond b (Ok (Some (place_of E es (32 * n + child_bit d key)))) (Ok None)
         go true e =
             step_down p.mark key len d (node_of E D es vs n) h (bits_has E n (child_bit d key) (child_lt d key) ∙ e)
             (index_within image.trees n (items_some E n (child_bit d key) (child_lt d key) e))
-            ∙ ap Down (index_place E es n (child_bit d key) (child_lt d key) e)
+            ∙ ap (λ (a : ℕ). Ok (Some a)) (index_place E es n (child_bit d key) (child_lt d key) e)
         go false e = step_none p.mark key len d (node_of E D es vs n) h (bits_has E n (child_bit d key) (child_lt d key) ∙ e)
 
     -- a walk goes down to the next node of the key's path where that node exists and the query is long enough, and ends elsewhere
     pub node_step : (key len j : ℕ) → j ≤ 6 → len ≤ width
         → step_of p.mark key len (depth j) (node_of E D es vs (path_no key j))
-        ≡ cond (leb (depth (suc j)) len && E (path_no key (suc j))) (Down (place_of E es (path_no key (suc j)))) End
+        ≡ cond (leb (depth (suc j)) len && E (path_no key (suc j))) (Ok (Some (place_of E es (path_no key (suc j))))) (Ok None)
     node_step key len j h short = go (leb (depth (suc j)) len) refl
       where
         go : (b : Bool) → leb (depth (suc j)) len ≡ b → step_of p.mark key len (depth j) (node_of E D es vs (path_no key j))
-            ≡ cond (b && E (path_no key (suc j))) (Down (place_of E es (path_no key (suc j)))) End
+            ≡ cond (b && E (path_no key (suc j))) (Ok (Some (place_of E es (path_no key (suc j))))) (Ok None)
         go true e =
             let l = leb-true (depth (suc j)) len e in
             rw (path_child key j (omega arith)) (step_child (path_no key j) key len (depth j) (omega arith))

@@ -13,6 +13,7 @@ pub fn read_full<R: Read>(input: &mut R, buf: &mut [u8]) -> (usize, io::Result<(
     ensures bytes { Consumes (R.remaining input.old) (R.remaining input.new) (take result.0 buf.new) }
     ensures end { OnOk result.1 (result.0 < length buf.new → IsAtEnd (R.remaining input.new)) }
 {
+    // What is counted is bytes that came, not turns: no `for`.
     let mut filled: usize = 0;
     while filled < buf.len() {
         match input.read(&mut buf[filled..]) {

@@ -1,88 +1,69 @@
 // What an answer is, and those of slots and tiers.
-use tiers::{ChildPool, DataPool};
+use bits::Bit;
+use tiers::{ChildPool, DataPool, Kind, Tier};
 
-#[derive(Clone, Copy)]
-pub struct Answer {
-    pub kind: u32,
-    pub x: u32,
-    pub y: u32,
+// One number, two numbers, nothing, or that the inputs are outside the function's.
+#[derive(Clone, Copy, Debug, PartialEq, Eq)]
+pub enum Answer {
+    One(u32),
+    Two(u32, u32),
+    Nothing,
+    Outside,
 }
 
-pub fn one(x: u32) -> Answer {
-    Answer {
-        kind: 0,
-        x: x,
-        y: 0,
+impl Answer {
+    // Which answer it is, then its numbers, 0 where it has none.
+    pub fn numbers(self) -> (u32, u32, u32) {
+        match self {
+            Answer::One(x) => (0, x, 0),
+            Answer::Two(x, y) => (1, x, y),
+            Answer::Nothing => (2, 0, 0),
+            Answer::Outside => (3, 0, 0),
+        }
     }
 }
 
-pub fn two(x: u32, y: u32) -> Answer {
-    Answer {
-        kind: 1,
-        x: x,
-        y: y,
+impl From<bool> for Answer {
+    fn from(b: bool) -> Answer {
+        Answer::One(u32::from(b))
     }
 }
 
-pub fn nothing() -> Answer {
-    Answer {
-        kind: 2,
-        x: 0,
-        y: 0,
+impl From<Tier> for Answer {
+    fn from(tier: Tier) -> Answer {
+        Answer::One(tier.number() as u32)
     }
 }
 
-pub fn outside() -> Answer {
-    Answer {
-        kind: 3,
-        x: 0,
-        y: 0,
+impl From<Bit> for Answer {
+    fn from(bit: Bit) -> Answer {
+        Answer::One(bit.number())
     }
 }
 
-pub fn truth(b: bool) -> Answer {
-    if b {
-        return one(1);
+// The spacing of a tier of one kind of pool.
+fn spacing<K: Kind>(tier: u32) -> Answer {
+    match Tier::new(tiers::wide(tier)) {
+        Some(tier) => Answer::One(K::spacing(tier)),
+        None => Answer::Outside,
     }
-    one(0)
 }
 
-fn small(x: usize) -> u32 {
-    (x % 4_294_967_296) as u32
+// The slot of a bit, where there is such a bit.
+fn slot(bitmap: u32, bit: u32) -> Answer {
+    match Bit::new(bit) {
+        Some(bit) => Answer::One(bits::compute_slot(bitmap, bit)),
+        None => Answer::Outside,
+    }
 }
 
 pub fn of_slots_and_tiers(op: u32, a: u32, b: u32) -> Answer {
     match op {
-        1 => {
-            if b < 32 {
-                return one(bits::compute_slot(a, b));
-            }
-            outside()
-        }
-        2 => {
-            if a <= 31 {
-                return one(small(DataPool::tier(a)));
-            }
-            outside()
-        }
-        3 => {
-            if a <= 32 {
-                return one(small(ChildPool::tier(a)));
-            }
-            outside()
-        }
-        4 => {
-            if a < 7 {
-                return one(DataPool::spacing(tiers::wide(a)));
-            }
-            outside()
-        }
-        5 => {
-            if a < 7 {
-                return one(ChildPool::spacing(tiers::wide(a)));
-            }
-            outside()
-        }
-        _ => outside(),
+        1 => slot(a, b),
+        2 if a <= 31 => Answer::from(DataPool::tier(a)),
+        3 if a <= 32 => Answer::from(ChildPool::tier(a)),
+        4 => spacing::<DataPool>(a),
+        5 => spacing::<ChildPool>(a),
+        _ => Answer::Outside,
     }
 }

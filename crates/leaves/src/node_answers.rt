@@ -1,18 +1,30 @@
 // Answers of node bits, masks, patterns and matches.
-ghost use Rattle.std.specs.Prelude.{◌≡◌, true};
+ghost use Rattle.std.specs.Prelude.{◌≡◌, ◌<◌, true};
 ghost use Rattle.node.specs.Masks.{InTree};
 
 use crate::answers::Answer;
-use node::{Found, MultiBitNode};
+use bits::Bit;
+use node::MultiBitNode;
+use node::views::View;
 use tiers::{CellAt, NodeAt};
+
+// A bit that was found, or nothing.
+impl From<Option<Bit>> for Answer {
+    fn from(bit: Option<Bit>) -> Answer {
+        match bit {
+            Some(bit) => Answer::from(bit),
+            None => Answer::Nothing,
+        }
+    }
+}
 
 // A node of two bitmaps alone.
 fn node_of(data_bitmap: u32, child_bitmap: u32) -> MultiBitNode {
     MultiBitNode {
         data_bitmap: data_bitmap,
         child_bitmap: child_bitmap,
-        children_idx: NodeAt::empty(),
-        data_idx: CellAt::empty(),
+        children_idx: NodeAt::EMPTY,
+        data_idx: CellAt::EMPTY,
     }
 }
 
@@ -20,124 +32,58 @@ fn node_of(data_bitmap: u32, child_bitmap: u32) -> MultiBitNode {
 fn in_tree(depth: u32, len: u32) -> bool
     ensures { result ≡ true → InTree depth len }
 {
-    if depth % 5 == 0 {
-        if depth <= len {
-            return len <= 32;
-        }
-        return false;
-    }
-    false
+    depth % 5 == 0 && depth <= len && len <= 32
 }
 
-fn found(f: Found) -> Answer {
-    match f {
-        Found::At(bit) => crate::answers::one(bit),
-        Found::Nothing => crate::answers::nothing(),
-    }
-}
-
-fn pattern(section: u32, level: u32, place: u32) -> Answer {
-    if 5 <= level {
-        return crate::answers::outside();
-    }
-    if 16 <= place {
-        return crate::answers::outside();
-    }
+// An entry of one of the three patterns: the request's own number says which.
+fn pattern(section: u32, level: usize, place: usize) -> Answer
+    requires { (level < 5) × (place < 16) }
+{
     match section {
-        0 => crate::answers::one(patterns::data_lpm_pattern(
-            tiers::wide(level),
-            tiers::wide(place),
-        )),
-        1 => crate::answers::one(patterns::data_cover_pattern(
-            tiers::wide(level),
-            tiers::wide(place),
-        )),
-        2 => crate::answers::one(patterns::child_cover_pattern(
-            tiers::wide(level),
-            tiers::wide(place),
-        )),
-        _ => crate::answers::outside(),
+        0 => Answer::One(patterns::data_lpm_pattern(level, place)),
+        1 => Answer::One(patterns::data_cover_pattern(level, place)),
+        2 => Answer::One(patterns::child_cover_pattern(level, place)),
+        _ => Answer::Outside,
     }
-}
-
-fn data_bit(key: u32, len: u32) -> Answer {
-    if len <= 32 {
-        return crate::answers::one(places::data_bit(key, len));
-    }
-    crate::answers::outside()
-}
-
-fn child_bit(depth: u32, key: u32) -> Answer {
-    if depth <= 25 {
-        return crate::answers::one(places::child_bit(depth, key));
-    }
-    crate::answers::outside()
 }
 
 pub fn of_masks(op: u32, a: u32, b: u32, c: u32) -> Answer {
-    if op == 6 {
-        return data_bit(a, b);
+    match op {
+        6 if b <= 32 => Answer::from(places::data_bit(a, b)),
+        7 if a <= 25 => Answer::from(places::child_bit(a, b)),
+        8 if in_tree(a, c) => Answer::One(node::data_lpm_mask(View::at(a, b, c))),
+        9 if in_tree(a, c) => Answer::One(node::data_cover_mask(View::at(a, b, c))),
+        10 if in_tree(a, c) => Answer::One(node::child_cover_mask(View::at(a, b, c))),
+        11 if b < 5 && c < 16 => pattern(a, tiers::wide(b), tiers::wide(c)),
+        _ => Answer::Outside,
     }
-    if op == 7 {
-        return child_bit(a, b);
-    }
-    if op == 11 {
-        return pattern(a, b, c);
-    }
-    if in_tree(a, c) {
-        if op == 8 {
-            return crate::answers::one(node::data_lpm_mask(a, b, c));
-        }
-        if op == 9 {
-            return crate::answers::one(node::data_cover_mask(a, b, c));
-        }
-        if op == 10 {
-            return crate::answers::one(node::child_cover_mask(a, b, c));
-        }
-    }
-    crate::answers::outside()
 }
 
 pub fn of_matches(op: u32, bitmap: u32, depth: u32, key: u32, len: u32) -> Answer {
-    if in_tree(depth, len) {
-        if op == 12 {
-            return found(node_of(bitmap, 0).data_lpm(depth, key, len));
-        }
-        if op == 13 {
-            return found(node_of(bitmap, 0).data_spm(depth, key, len));
-        }
-        if op == 14 {
-            return crate::answers::one(node_of(bitmap, 0).data_cover(depth, key, len));
-        }
-        if op == 15 {
-            return crate::answers::one(node_of(0, bitmap).child_cover(depth, key, len));
-        }
+    if !in_tree(depth, len) {
+        return Answer::Outside;
     }
-    crate::answers::outside()
+    let v = View::at(depth, key, len);
+    match op {
+        12 => Answer::from(node_of(bitmap, 0).data_lpm(v)),
+        13 => Answer::from(node_of(bitmap, 0).data_spm(v)),
+        14 => Answer::One(node_of(bitmap, 0).data_cover(v)),
+        15 => Answer::One(node_of(0, bitmap).child_cover(v)),
+        _ => Answer::Outside,
+    }
 }
 
 pub fn of_bits(op: u32, bitmap: u32, bit: u32) -> Answer {
-    if bit < 31 {
-        if op == 23 {
-            return crate::answers::truth(node_of(bitmap, 0).has_data_bit(bit));
-        }
-        if op == 24 {
-            return crate::answers::one(node_of(bitmap, 0).set_data_bit(bit).data_bitmap);
-        }
-        if op == 25 {
-            return crate::answers::one(node_of(bitmap, 0).unset_data_bit(bit).data_bitmap);
-        }
+    let Some(at) = Bit::new(bit) else {
+        return Answer::Outside;
+    };
+    match op {
+        23 if bit < 31 => Answer::from(node_of(bitmap, 0).has_data_bit(at)),
+        24 if bit < 31 => Answer::One(node_of(bitmap, 0).set_data_bit(at).data_bitmap),
+        25 if bit < 31 => Answer::One(node_of(bitmap, 0).unset_data_bit(at).data_bitmap),
+        26 => Answer::from(node_of(0, bitmap).has_child_bit(at)),
+        27 => Answer::One(node_of(0, bitmap).set_child_bit(at).child_bitmap),
+        28 => Answer::One(node_of(0, bitmap).unset_child_bit(at).child_bitmap),
+        _ => Answer::Outside,
     }
-    if bit < 32 {
-        if op == 26 {
-            return crate::answers::truth(node_of(0, bitmap).has_child_bit(bit));
-        }
-        if op == 27 {
-            return crate::answers::one(node_of(0, bitmap).set_child_bit(bit).child_bitmap);
-        }
-        if op == 28 {
-            return crate::answers::one(node_of(0, bitmap).unset_child_bit(bit).child_bitmap);
-        }
-    }
-    crate::answers::outside()
 }

@@ -1,86 +1,59 @@
 // Answers of the order tables and of the keys that bits stand for.
+ghost use Rattle.std.specs.Prelude.{◌≡◌, ◌<◌, ◌≤◌, true};
+ghost use Rattle.prefix.specs.Prefix.{width};
+ghost use Rattle.places.specs.Places.{length_at};
+
 use crate::answers::Answer;
-use order::LexElem;
+use order::{BitPrefix, LexElem, LexMasks};
+use prefix::Prefix;
 
-fn elem(e: LexElem) -> Answer {
-    match e {
-        LexElem::Data(bit) => crate::answers::two(0, bit),
-        LexElem::Child(bit) => crate::answers::two(1, bit),
-    }
-}
-
-fn after_data(bit: u32) -> Answer {
-    if bit < 31 {
-        let m = order::lex_after_data(tiers::wide(bit));
-        return crate::answers::two(m.data_mask, m.child_mask);
-    }
-    crate::answers::outside()
-}
-
-fn after_child(bit: u32) -> Answer {
-    if bit < 32 {
-        let m = order::lex_after_child(tiers::wide(bit));
-        return crate::answers::two(m.data_mask, m.child_mask);
-    }
-    crate::answers::outside()
-}
-
-fn bit_prefix(bit: u32) -> Answer {
-    if bit < 31 {
-        let p = order::data_bit_to_prefix(tiers::wide(bit));
-        return crate::answers::two(p.offset, p.level);
-    }
-    crate::answers::outside()
-}
-
-fn extended(key: u32, depth: u32, offset: u32) -> Answer {
-    if depth % 5 == 0 {
-        if depth <= 30 {
-            if offset < 32 {
-                return crate::answers::one(order::extend_repr(key, depth, offset));
-            }
+impl From<LexElem> for Answer {
+    fn from(e: LexElem) -> Answer {
+        match e {
+            LexElem::Data(bit) => Answer::Two(0, bit),
+            LexElem::Child(bit) => Answer::Two(1, bit),
         }
     }
-    crate::answers::outside()
 }
 
-fn data_prefix(depth: u32, key: u32, bit: u32) -> Answer {
-    if depth % 5 == 0 {
-        if depth <= 25 {
-            if bit < 31 {
-                let p = order::data_prefix(depth, key, bit);
-                return crate::answers::two(p.key, p.len);
-            }
-        }
-        if depth == 30 {
-            if bit < 7 {
-                let p = order::data_prefix(depth, key, bit);
-                return crate::answers::two(p.key, p.len);
-            }
-        }
+impl From<LexMasks> for Answer {
+    fn from(m: LexMasks) -> Answer {
+        Answer::Two(m.data_mask, m.child_mask)
     }
-    crate::answers::outside()
+}
+
+impl From<BitPrefix> for Answer {
+    fn from(p: BitPrefix) -> Answer {
+        Answer::Two(p.offset, p.level)
+    }
+}
+
+impl From<Prefix> for Answer {
+    fn from(p: Prefix) -> Answer {
+        Answer::Two(p.key, p.len)
+    }
+}
+
+// Does a data bit stand for a prefix in a node at this depth? At depth 30 only those of its first three levels do.
+#[tactic(auto, using(places::proofs::Levels::level_lt, places::proofs::Prefixes::at_last), unfolding(places::specs::Places::length_at))]
+fn has_prefix(depth: u32, bit: u32) -> bool
+    ensures { result ≡ true → (depth ≤ 30) × ((bit < 31) × (length_at depth bit ≤ width)) }
+{
+    match depth {
+        30 => bit < 7,
+        _ => depth % 5 == 0 && depth <= 25 && bit < 31,
+    }
 }
 
 pub fn of_order(op: u32, a: u32, b: u32, c: u32) -> Answer {
     match op {
-        16 => {
-            if a < 63 {
-                return elem(order::lex_order(tiers::wide(a)));
-            }
-            crate::answers::outside()
-        }
-        17 => after_data(a),
-        18 => after_child(a),
-        19 => bit_prefix(a),
-        20 => extended(a, b, c),
-        21 => {
-            if b <= 32 {
-                return crate::answers::one(prefix::mask_key(a, b));
-            }
-            crate::answers::outside()
-        }
-        22 => data_prefix(a, b, c),
-        _ => crate::answers::outside(),
+        16 if a < 63 => Answer::from(order::lex_order(tiers::wide(a))),
+        17 if a < 31 => Answer::from(order::lex_after_data(tiers::wide(a))),
+        18 if a < 32 => Answer::from(order::lex_after_child(tiers::wide(a))),
+        19 if a < 31 => Answer::from(order::data_bit_to_prefix(tiers::wide(a))),
+        20 if b % 5 == 0 && b <= 30 && c < 32 => Answer::One(order::extend_repr(a, b, c)),
+        21 if b <= 32 => Answer::One(prefix::mask_key(a, b)),
+        22 if has_prefix(a, c) => Answer::from(order::data_prefix(a, b, c)),
+        _ => Answer::Outside,
     }
 }

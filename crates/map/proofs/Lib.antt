@@ -1,7 +1,6 @@
+pub mod Sets
 pub mod Sighted
-pub mod Begun
-pub mod InsertWays
+pub mod Walking
 pub mod Unchanged
-pub mod RemovalWays
 pub mod Pinned
 pub mod Refusing

@@ -1,5 +1,5 @@
 -- What a refusal carries: its number and zeros. A lookup's numbers and counts; what every call says to a refused start's state. Assumes nothing.
-use mathlib.Core.Path.{◌≡◌, refl, sym, ap, ◌∙◌, subst}
+use mathlib.Core.Path.{◌≡◌, refl, sym, subst}
 use mathlib.Core.Bool.{Bool, true, false, cond}
 use mathlib.Core.List.{List}
 use mathlib.Core.Logic.{inl, inr}
@@ -14,8 +14,10 @@ use Rattle.store.specs.Words.{cell_at}
 use Rattle.entry.specs.First.{lookup_first, edit_first}
 use Rattle.entry.specs.Fresh.{pool_as}
 use Rattle.entry.proofs.Numbers.{OneOf, lookup_numbers, zero_lookup, zero_edit}
+use Rattle.std.specs.Prelude.{Option, Some, None, Result, Ok, Err}
+use Rattle.refusals.specs.declared.Refusal.{Refusal}
 use Rattle.walk.specs.declared.Sight.{Sight}
-use Rattle.walk.specs.declared.Sight.TheVariants.{Unsound, Missing, Rule}
+use Rattle.walk.specs.declared.Rule.{Rule}
 use Rattle.walk.specs.Steps.{data_within}
 use Rattle.walk.specs.Lookups.{exact_sight, longest_sight, shortest_sight}
 use Rattle.walk.specs.Sights.{Seen}
@@ -24,12 +26,14 @@ use Rattle.walk.proofs.Sights.{exact_seen, longest_seen, shortest_seen}
 use Rattle.map.specs.declared.State.{State}
 use Rattle.map.specs.declared.Answer.{Answer}
 use Rattle.map.specs.declared.Answer.TheVariants.{Started, Added, Replaced, Removed, Found, TooLong, Missing as Absent, WrongSlice, NoRoom, Broken}
-use Rattle.map.specs.Answers.{Values, values, values_of}
+use Rattle.map.specs.declared.Values.{Values}
+use Rattle.map.specs.Answers.{values, values_of}
 use Rattle.map.specs.Memory.{Memory, state_as, edited, refusal}
-use Rattle.map.specs.Lookups.{answer_of, lookup_of, exact_of, longest_of, shortest_of}
+use Rattle.map.specs.Lookups.{told_of, answer_of, lookup_of, exact_of, longest_of, shortest_of}
 use Rattle.map.specs.Inserts.{insert_of}
 use Rattle.map.specs.Removals.{remove_of}
-use Rattle.map.proofs.Begun.{lookup_refused, lookup_tells, lookup_walks}
+use borrow.Author.Tests.{eq-eqb, ne_eqb}
+use Rattle.entry.proofs.Ready.{lookup_ready}
 
 -- ---- any answer
 
@@ -84,16 +88,18 @@ found_told true k m v n h = record { low = omega arith; roomy = λ z. omega arit
 found_told false k m v n h = record { low = omega arith; roomy = λ z. omega arith; seven = omega arith }
 
 -- the answer of a sight
-answer_told : (s : Sight) (cells : List ℕ) (lim key len : ℕ) → len ≤ width → Seen key len s → LookupValues (values_of (answer_of s cells lim key))
-unfolding answer_of
-answer_told Unsound cells lim key len h w = record { low = omega arith; roomy = λ z. omega arith; seven = omega arith }
-answer_told (Missing n) cells lim key len h w =
-    let v = visited_seven len h in
-    record { low = omega arith; roomy = λ z. omega arith; seven = omega arith }
-answer_told (Rule at bitmap b m n) cells lim key len h w =
-    let v = visited_seven len h in
-    let u = w.visits in
-    found_told (data_within lim (count bitmap) at.0) (masked key m) m (cell_at cells (at.0 + set_below bitmap b)).value n (omega arith)
+answer_told : (s : Result Sight Refusal) (cells : List ℕ) (lim key len : ℕ) → len ≤ width → Seen key len s → LookupValues (values_of (answer_of s cells lim key))
+unfolding answer_of told_of
+answer_told (Err r) cells lim key len h w = record { low = omega arith; roomy = λ z. omega arith; seven = omega arith }
+answer_told (Ok s) cells lim key len h w = told s.rule
+  where
+    few : s.visits ≤ 7
+    few = let v = visited_seven len h in let u = w.0 in omega arith
+
+    told : (o : Option Rule) → LookupValues (values_of (told_of o s.visits cells lim key))
+    told None = record { low = omega arith; roomy = λ z. omega arith; seven = few }
+    told (Some rule) =
+        found_told (data_within lim (count rule.bitmap) rule.cells.0) (masked key rule.len) rule.len (cell_at cells (rule.cells.0 + set_below rule.bitmap rule.bit)).value s.visits few
 
 -- the numbers of the first tests
 first_told : (n : ℕ) → (n ≡ 0 → ⊥) → OneOf n → values_of (refusal n) ≡ values n 0 0 0 0
@@ -119,19 +125,18 @@ module _ (s : State) (nodes cells : List ℕ) (key len : ℕ) where
   one_of = lookup_numbers s.nodes s.cells s.rules (length nodes) (length cells) len
 
   -- where they refuse, zeros come with it
-  first_zeros : (sight : Sight) → (first_number ≡ 0 → ⊥) → values_of (lookup_of s nodes cells key len sight) ≡ values first_number 0 0 0 0
+  first_zeros : (sight : Result Sight Refusal) → (first_number ≡ 0 → ⊥) → values_of (lookup_of s nodes cells key len sight) ≡ values first_number 0 0 0 0
   first_zeros sight h =
-      ap values_of (sym (lookup_refused s nodes cells key len first_number refl sight h (refusal first_number) refl)) ∙ first_told first_number h one_of
+      rw (ne_eqb first_number 0 h) (first_told first_number h one_of)
 
   -- a lookup refused, or answered
-  look_told : (sight : Sight) → (len ≤ width → Seen key len sight) → LookupValues (values_of (lookup_of s nodes cells key len sight))
+  look_told : (sight : Result Sight Refusal) → (len ≤ width → Seen key len sight) → LookupValues (values_of (lookup_of s nodes cells key len sight))
   look_told sight w = go (ℕ_discrete first_number 0)
     where
       go : Dec (first_number ≡ 0) → LookupValues (values_of (lookup_of s nodes cells key len sight))
       go (yes z) =
-          let k = (lookup_walks s nodes cells key len first_number refl z).short in
-          subst (λ (x : Answer). LookupValues (values_of x)) (lookup_tells s nodes cells key len first_number refl z sight sight refl (answer_of sight cells s.cells.mark key) refl)
-          (answer_told sight cells s.cells.mark key len k (w k))
+          let k = (lookup_ready s.nodes s.cells s.rules (length nodes) (length cells) len z).short in
+          rw (eq-eqb first_number 0 z) (answer_told sight cells s.cells.mark key len k (w k))
       go (no z) = subst (λ (v : Values). LookupValues v) (sym (first_zeros sight z)) (refused_told first_number z one_of)
 
   -- refused by its first tests: their number, and zeros
@@ -166,9 +171,8 @@ abbrev pub zero_state : State
 zero_state = state_as (pool_as 0 0) (pool_as 0 0) 0
 
 module _ (nodes cells : List ℕ) (key len : ℕ) where
-  zero_look : (sight : Sight) → lookup_of zero_state nodes cells key len sight ≡ WrongSlice
-  zero_look sight =
-      sym (lookup_refused zero_state nodes cells key len 3 (sym (zero_lookup (length nodes) (length cells) len)) sight (λ z. omega arith) WrongSlice refl)
+  zero_look : (sight : Result Sight Refusal) → lookup_of zero_state nodes cells key len sight ≡ WrongSlice
+  zero_look sight = rw (zero_lookup (length nodes) (length cells) len)
 
   pub zero_exact : exact_of zero_state nodes cells key len ≡ WrongSlice
   unfolding exact_of

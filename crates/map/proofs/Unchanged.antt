@@ -13,7 +13,12 @@ use Rattle.node.specs.Nodes.{empty_node}
 use Rattle.blocks.specs.Growth.{grow_ask_of, chain_ask_of}
 use Rattle.store.specs.declared.Cell.{Cell}
 use Rattle.walk.specs.Steps.{data_within}
+use Rattle.std.specs.Prelude.{Result, Ok, Err}
+use Rattle.refusals.specs.declared.Refusal.{Refusal}
+use Rattle.refusals.specs.Numbers.{number_of as refusal_number}
 use Rattle.walk.specs.declared.Trail.{Trail}
+use Rattle.map.specs.Inserts as inserts
+use Rattle.map.specs.Removals as removals
 use Rattle.walk.specs.Trails.{trail_of}
 use Rattle.entry.specs.First.{edit_first}
 use Rattle.edits.specs.Removing.{drop_ask_of, last_rule, prune_ask_of}
@@ -70,6 +75,11 @@ module _ (s : State) (m : Memory) where
     arrived_unchanged =
         either (leb (d + stride) len) _ _ below_unchanged (either (has x.data_bitmap (data_bit key len)) _ _ replace_unchanged here_unchanged)
 
+  walked_unchanged : (key len : ℕ) (v : Cell) (r : Result Trail Refusal) → Unchanged s m (inserts.walked_of s m key len v r)
+  unfolding inserts.walked_of
+  walked_unchanged key len v (Err r) = refused (refusal_number r)
+  walked_unchanged key len v (Ok t) = let i = t.depth / stride in arrived_unchanged key len v (get_or t.places i 0) t.depth (get_or t.nodes i empty_node)
+
   -- a refused insert changes no state and no memory
   pub insert_unchanged : (key len : ℕ) (v : Cell) → Unchanged s m (insert_of s m key len v)
   unfolding insert_of
@@ -77,11 +87,8 @@ module _ (s : State) (m : Memory) where
       let n =
       edit_first s.nodes s.cells s.rules (length m.nodes) (length m.cells) (length m.node_free) (length m.cell_free) key len
       in
-      let t = trail_of m.nodes s.nodes.mark (masked key len) len in
-      let i = t.depth / stride in
-      either (eqb n 0) _ _
-      (either t.sound _ _ (arrived_unchanged (masked key len) len v (get_or t.places i 0) t.depth (get_or t.nodes i empty_node)) (refused 5))
-      (refused n)
+      let k = masked key len in
+      either (eqb n 0) _ _ (walked_unchanged k len v (trail_of m.nodes s.nodes.mark k len)) (refused n)
 
   taken_unchanged : (key len : ℕ) (t : Trail) (i : ℕ) (x : MultiBitNode) → Unchanged s m (taken_of s m key len t i x)
   unfolding taken_of
@@ -90,16 +97,19 @@ module _ (s : State) (m : Memory) where
       let u = prune_ask_of i s.nodes s.nodes.mark m.node_free t.nodes (last_rule x) in
       either (eqb s.rules 0) _ _ (refused 5) (either (eqb a 0) _ _ (either (eqb u 0) _ _ (done _ refl) (refused u)) (refused a))
 
+  gone_unchanged : (key len : ℕ) (r : Result Trail Refusal) → Unchanged s m (removals.walked_of s m key len r)
+  unfolding removals.walked_of
+  gone_unchanged key len (Err r) = refused (refusal_number r)
+  gone_unchanged key len (Ok t) =
+      let i = t.depth / stride in
+      let x = get_or t.nodes i empty_node in
+      either (leb (t.depth + stride) len) _ _ (refused 2)
+      (either (has x.data_bitmap (data_bit key len)) _ _ (taken_unchanged key len t i x) (refused 2))
+
   -- a refused removal changes no state and no lent memory
   pub remove_unchanged : (key len : ℕ) → Unchanged s m (remove_of s m key len)
   unfolding remove_of
   remove_unchanged key len =
       let n = edit_first s.nodes s.cells s.rules (length m.nodes) (length m.cells) (length m.node_free) (length m.cell_free) key len in
       let k = masked key len in
-      let t = trail_of m.nodes s.nodes.mark k len in
-      let i = t.depth / stride in
-      let x = get_or t.nodes i empty_node in
-      either (eqb n 0) _ _
-      (either t.sound _ _
-      (either (leb (t.depth + stride) len) _ _ (refused 2)
-      (either (has x.data_bitmap (data_bit k len)) _ _ (taken_unchanged k len t i x) (refused 2))) (refused 5)) (refused n)
+      either (eqb n 0) _ _ (gone_unchanged k len (trail_of m.nodes s.nodes.mark k len)) (refused n)

@@ -1,14 +1,8 @@
 -- Document 01's number and values for each case of an answer ("Numbers the desk gives back"). Assumes nothing.
 use Rattle.std.specs.Prelude.{ℕ}
 use Rattle.map.specs.declared.Answer.{Answer}
+use Rattle.map.specs.declared.Values.{Values}
 use Rattle.map.specs.declared.Answer.TheVariants.{Started, Added, Replaced, Removed, Found, TooLong, Missing, WrongSlice, NoRoom, Broken}
-
-pub record Values : Type 0 where
-  pub number : ℕ
-  pub len : ℕ
-  pub nodes : ℕ
-  pub key : ℕ
-  pub value : ℕ
 
 abbrev pub values : ℕ → ℕ → ℕ → ℕ → ℕ → Values
 values n l c k v = record { number = n; len = l; nodes = c; key = k; value = v }

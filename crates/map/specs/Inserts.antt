@@ -1,5 +1,5 @@
 -- Insert (document 01): refused, replaced, stored in the node at the path's end, or stored below it. Assumes nothing.
-use Rattle.std.specs.Prelude.{ℕ, ◌+◌, ◌-◌, ◌/◌, cond, leb, eqb, length, get_or}
+use Rattle.std.specs.Prelude.{Result, Ok, Err, ℕ, ◌+◌, ◌-◌, ◌/◌, cond, leb, eqb, length, get_or}
 use Rattle.bits.specs.Bits.{has, count, set_below}
 use Rattle.prefix.specs.Prefix.{masked}
 use Rattle.tiers.specs.Tiers.{stride, data_top, child_top, empty}
@@ -10,6 +10,9 @@ use Rattle.blocks.specs.declared.Pool.{Pool}
 use Rattle.blocks.specs.Growth.{grow_ask_of, chain_ask_of}
 use Rattle.store.specs.declared.Cell.{Cell}
 use Rattle.store.specs.Words.{cell_at, save_cell}
+use Rattle.refusals.specs.declared.Refusal.{Refusal}
+use Rattle.refusals.specs.Numbers.{number_of}
+use Rattle.walk.specs.declared.Trail.{Trail}
 use Rattle.walk.specs.Steps.{data_within}
 use Rattle.walk.specs.Trails.{trail_of}
 use Rattle.entry.specs.First.{edit_first}
@@ -54,12 +57,13 @@ arrived_of s m key len v at d x =
     cond (leb (d + stride) len) (below_of s m key len v at d x)
     (cond (has x.data_bitmap (data_bit key len)) (replace_of s m key len v x) (here_of s m key len v at x))
 
+-- after its walk: refused, or at the node where the trail ends
+unfoldable pub walked_of : State → Memory → ℕ → ℕ → Cell → Result Trail Refusal → Edited × Memory
+walked_of s m key len v (Err r) = refuse (number_of r) s m
+walked_of s m key len v (Ok t) = let i = t.depth / stride in arrived_of s m key len v (get_or t.places i 0) t.depth (get_or t.nodes i empty_node)
+
 unfoldable pub insert_of : State → Memory → ℕ → ℕ → Cell → Edited × Memory
 insert_of s m key len v =
     let n = edit_first s.nodes s.cells s.rules (length m.nodes) (length m.cells) (length m.node_free) (length m.cell_free) key len in
     let k = masked key len in
-    let t = trail_of m.nodes s.nodes.mark k len in
-    let i = t.depth / stride in
-    cond (eqb n 0)
-    (cond t.sound (arrived_of s m k len v (get_or t.places i 0) t.depth (get_or t.nodes i empty_node)) (refuse 5 s m))
-    (refuse n s m)
+    cond (eqb n 0) (walked_of s m k len v (trail_of m.nodes s.nodes.mark k len)) (refuse n s m)

@@ -1,5 +1,7 @@
 -- What the caller lends, and a refusal: the same state, the same memory. Assumes nothing.
-use Rattle.std.specs.Prelude.{ℕ, cond, List, eqb}
+use Rattle.std.specs.Prelude.{Result, Ok, Err, ℕ, cond, List, eqb}
+use Rattle.refusals.specs.declared.Refusal.{Refusal}
+use Rattle.refusals.specs.Numbers.{number_of}
 use Rattle.blocks.specs.declared.Pool.{Pool}
 use Rattle.map.specs.declared.State.{State}
 use Rattle.map.specs.declared.Answer.{Answer}
@@ -28,3 +30,8 @@ refusal n = cond (eqb n 1) TooLong (cond (eqb n 2) (Missing 0) (cond (eqb n 3) W
 
 abbrev pub refuse : ℕ → State → Memory → Edited × Memory
 refuse n s m = (edited (refusal n) s, m)
+
+-- an edit that ends with this state: the answer of its steps, or their refusal
+abbrev pub settled : State → Result Answer Refusal → Edited
+settled s (Ok a) = edited a s
+settled s (Err r) = edited (refusal (number_of r)) s

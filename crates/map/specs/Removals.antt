@@ -1,5 +1,5 @@
 -- Remove (document 01): refused, or the rule's value taken, then empty nodes given back from the bottom up. Assumes nothing.
-use Rattle.std.specs.Prelude.{ℕ, ◌+◌, ◌-◌, ◌/◌, cond, leb, eqb, length, get_or}
+use Rattle.std.specs.Prelude.{Result, Ok, Err, ℕ, ◌+◌, ◌-◌, ◌/◌, cond, leb, eqb, length, get_or}
 use Rattle.bits.specs.Bits.{has, set_below}
 use Rattle.prefix.specs.Prefix.{masked}
 use Rattle.tiers.specs.Tiers.{stride}
@@ -7,6 +7,8 @@ use Rattle.places.specs.Places.{data_bit}
 use Rattle.node.specs.declared.MultiBitNode.{MultiBitNode}
 use Rattle.node.specs.Nodes.{empty_node}
 use Rattle.store.specs.Words.{cell_at}
+use Rattle.refusals.specs.declared.Refusal.{Refusal}
+use Rattle.refusals.specs.Numbers.{number_of}
 use Rattle.walk.specs.declared.Trail.{Trail}
 use Rattle.walk.specs.Trails.{trail_of}
 use Rattle.entry.specs.First.{edit_first}
@@ -33,16 +35,16 @@ taken_of s m key len t i x =
     (refuse u s m))
     (refuse a s m))
 
+-- after its walk: refused, or the rule is looked for in the node where the trail ends
+unfoldable pub walked_of : State → Memory → ℕ → ℕ → Result Trail Refusal → Edited × Memory
+walked_of s m key len (Err r) = refuse (number_of r) s m
+walked_of s m key len (Ok t) =
+    let i = t.depth / stride in
+    let x = get_or t.nodes i empty_node in
+    cond (leb (t.depth + stride) len) (refuse 2 s m) (cond (has x.data_bitmap (data_bit key len)) (taken_of s m key len t i x) (refuse 2 s m))
+
 unfoldable pub remove_of : State → Memory → ℕ → ℕ → Edited × Memory
 remove_of s m key len =
     let n = edit_first s.nodes s.cells s.rules (length m.nodes) (length m.cells) (length m.node_free) (length m.cell_free) key len in
     let k = masked key len in
-    let t = trail_of m.nodes s.nodes.mark k len in
-    let i = t.depth / stride in
-    let x = get_or t.nodes i empty_node in
-    cond (eqb n 0)
-    (cond t.sound
-    (cond (leb (t.depth + stride) len) (refuse 2 s m)
-    (cond (has x.data_bitmap (data_bit k len)) (taken_of s m k len t i x) (refuse 2 s m)))
-    (refuse 5 s m))
-    (refuse n s m)
+    cond (eqb n 0) (walked_of s m k len (trail_of m.nodes s.nodes.mark k len)) (refuse n s m)

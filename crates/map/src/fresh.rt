@@ -19,6 +19,7 @@ fn new_state(n: u32, d: u32, mark: u32) -> State
 
 impl State {
     // A fresh start over n nodes and d cells; refused, it hands back an all-zero state, which every later call meets with 3.
+    #[tactic(auto, unfolding(crate::specs::Fresh::fresh_of))]
     pub fn fresh(
         nodes: &mut [u32],
         cells: &mut [u32],
@@ -29,7 +30,7 @@ impl State {
     ) -> Edited
         ensures { (result, memory nodes.new cells.new node_free.new cell_free.new) ≡ fresh_of (memory nodes.old cells.old node_free.old cell_free.old) n d }
     {
-        if entry::edit_shaped(
+        if !entry::edit_shaped(
             n,
             d,
             nodes.len(),
@@ -37,18 +38,18 @@ impl State {
             node_free.len(),
             cell_free.len(),
         ) {
-            entry::clear_nodes(nodes, n);
-            entry::clear_words(cells);
-            entry::clear_words(node_free);
-            entry::clear_words(cell_free);
             return Edited {
-                answer: Answer::Started,
-                state: new_state(n, d, 1),
+                answer: Answer::WrongSlice,
+                state: new_state(0, 0, 0),
             };
         }
+        entry::clear_nodes(nodes, n);
+        entry::clear_words(cells);
+        entry::clear_words(node_free);
+        entry::clear_words(cell_free);
         Edited {
-            answer: Answer::WrongSlice,
-            state: new_state(0, 0, 0),
+            answer: Answer::Started,
+            state: new_state(n, d, 1),
         }
     }
 }

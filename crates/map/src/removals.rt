@@ -1,77 +1,85 @@
 // Remove: refused, or the rule's value taken, then empty nodes given back from the bottom up. All is settled before the first write.
-ghost use Rattle.std.specs.Prelude.{◌≡◌, true, ◌+◌, ◌<◌, ◌≤◌, length};
-ghost use Rattle.tiers.specs.Tiers.{child_top};
+ghost use Rattle.std.specs.Prelude.{◌≡◌, true, ◌/◌, ◌<◌, length, get_or};
+ghost use Rattle.tiers.specs.Tiers.{stride, child_top};
 ghost use Rattle.places.specs.Places.{data_bit};
+ghost use Rattle.node.specs.Nodes.{empty_node};
 ghost use Rattle.blocks.specs.Shape.{shaped_of, sane_of};
-ghost use Rattle.store.specs.Words.{cell_at};
-ghost use Rattle.map.specs.Memory.{memory};
+ghost use Rattle.map.specs.Memory.{memory, settled};
 ghost use Rattle.map.specs.Removals.{taken_of, remove_of};
 
 use crate::{Answer, Edited, State};
-use node::MultiBitNode;
-use tiers::{ChildPool, wide};
+use bits::Bit;
+use refusals::Refusal;
+use store::{Cell, Item};
+use tiers::{ChildPool, Kind, wide};
 use walk::Trail;
 
-// The value in a slot of the block of cells that starts here.
-fn value_in(cells: &[u32], start: u32, slot: u32) -> u32
-    ensures { result ≡ (cell_at cells.now (start + slot)).value }
-{
-    let c = store::load_cell(cells, wide(start) + wide(slot));
-    c.value
-}
-
 impl State {
-    // The rule of a data bit in the node x, where the trail ends at level `level`, goes.
+    // The rule of a data bit in the trail's last node goes.
+    #[tactic(auto, unfolding(crate::specs::Removals::taken_of))]
     fn taken(
-        self,
+        &mut self,
         nodes: &mut [u32],
         cells: &mut [u32],
         node_free: &mut [u32],
         cell_free: &mut [u32],
         key: u32,
         len: u32,
-        t: Trail,
-        level: u32,
-        x: MultiBitNode,
-        bit: u32,
-    ) -> Edited
-        requires { (bit ≡ data_bit key len) × (bit < 31) × (level ≤ 6) × (shaped_of self.nodes child_top (length node_free.old) ≡ true) × (sane_of self.nodes child_top ≡ true) }
-        ensures { (result, memory nodes.new cells.new node_free.new cell_free.new) ≡ taken_of self (memory nodes.old cells.old node_free.old cell_free.old) key len t level x }
+        t: &Trail,
+        bit: Bit,
+    ) -> Result<Answer, Refusal>
+        requires rule { bit ≡ data_bit key len }
+        requires sound { (shaped_of self.old.nodes child_top (length node_free.old) ≡ true) × (sane_of self.old.nodes child_top ≡ true) }
+        ensures { let level = t.now.depth / stride in
+            (settled self.new result, memory nodes.new cells.new node_free.new cell_free.new)
+            ≡ taken_of self.old (memory nodes.old cells.old node_free.old cell_free.old) key len t.now level (get_or t.now.nodes level empty_node) }
     {
+        if self.rules == 0 {
+            return Err(Refusal::Broken);
+        }
         let p = self.nodes;
         let q = self.cells;
-        let rules = self.rules;
-        if rules == 0 {
-            return crate::refusals::refused(5, self);
-        }
-        let a = edits::drop_ask(q, &cell_free[..], x);
-        if a != 0 {
-            return crate::refusals::refused(a, self);
-        }
-        let path = t.nodes;
-        let places = t.places;
+        let last = t.last();
+        let x = last.node;
+        edits::drop_ask(q, cell_free, x)?;
         let bare = edits::last_rule(x);
-        let u = edits::prune_ask(p, &node_free[..], path, level, bare);
-        if u != 0 {
-            return crate::refusals::refused(u, self);
+        edits::prune_ask(p, node_free, t, bare)?;
+        let slot = wide(x.data_idx.0) + wide(x.data_slot(bit));
+        let old = Cell::load(cells, slot).value;
+        self.cells = edits::drop_rule(q, nodes, cells, cell_free, last.at, x, bit);
+        self.nodes = edits::prune(p, nodes, node_free, t, key, bare);
+        self.rules -= 1;
+        Ok(Answer::Removed(key, len, old))
+    }
+
+    // The steps of a removal: the first tests, the walk, then the rule where it ends.
+    #[tactic(auto, unfolding(crate::specs::Removals::remove_of, crate::specs::Removals::walked_of))]
+    fn removed(
+        &mut self,
+        nodes: &mut [u32],
+        cells: &mut [u32],
+        node_free: &mut [u32],
+        cell_free: &mut [u32],
+        key: u32,
+        len: u32,
+    ) -> Result<Answer, Refusal>
+        ensures { (settled self.new result, memory nodes.new cells.new node_free.new cell_free.new) ≡ remove_of self.old (memory nodes.old cells.old node_free.old cell_free.old) key len }
+    {
+        let t = self.walked(nodes, cells, node_free, cell_free, key, len)?;
+        let k = prefix::mask_key(key, len);
+        if t.depth() + ChildPool::STRIDE <= len {
+            return Err(Refusal::Missing);
         }
-        let old = value_in(&cells[..], x.data_idx.0, x.data_slot(bit));
-        let i = wide(level);
-        let q2 = edits::drop_rule(q, nodes, cells, cell_free, places[i], x, bit);
-        let p2 = edits::prune(p, nodes, node_free, places, path, level, key, bare);
-        Edited {
-            answer: Answer::Removed(key, len, old),
-            state: State {
-                nodes: p2,
-                cells: q2,
-                rules: rules - 1,
-            },
+        let bit = places::data_bit(k, len);
+        if !t.last().node.has_data_bit(bit) {
+            return Err(Refusal::Missing);
         }
+        self.taken(nodes, cells, node_free, cell_free, k, len, &t, bit)
     }
 
     // Removes a rule.
     pub fn remove(
-        self,
+        mut self,
         nodes: &mut [u32],
         cells: &mut [u32],
         node_free: &mut [u32],
@@ -81,35 +89,7 @@ impl State {
     ) -> Edited
         ensures { (result, memory nodes.new cells.new node_free.new cell_free.new) ≡ remove_of self (memory nodes.old cells.old node_free.old cell_free.old) key len }
     {
-        let n = entry::edit_first(
-            self.nodes,
-            self.cells,
-            self.rules,
-            nodes.len(),
-            cells.len(),
-            node_free.len(),
-            cell_free.len(),
-            key,
-            len,
-        );
-        if n != 0 {
-            return crate::refusals::refused(n, self);
-        }
-        let k = prefix::mask_key(key, len);
-        let t = walk::trails::trail(&nodes[..], self.nodes.mark, k, len);
-        if !t.sound {
-            return crate::refusals::refused(5, self);
-        }
-        if t.depth + ChildPool::STRIDE <= len {
-            return crate::refusals::refused(2, self);
-        }
-        let level = t.depth / ChildPool::STRIDE;
-        let i = wide(level);
-        let x = t.nodes[i];
-        let bit = places::data_bit(k, len);
-        if x.has_data_bit(bit) {
-            return self.taken(nodes, cells, node_free, cell_free, k, len, t, level, x, bit);
-        }
-        crate::refusals::refused(2, self)
+        let done = self.removed(nodes, cells, node_free, cell_free, key, len);
+        self.settled(done)
     }
 }

@@ -9,8 +9,7 @@ use native.Mathlib.Omega.{arith}
 use Rattle.bits.specs.Bits.{has}
 use Rattle.tiers.specs.Tiers.{stride}
 use Rattle.places.specs.Places.{data_bit}
-use Rattle.node.specs.declared.Found.{Found}
-use Rattle.node.specs.declared.Found.TheVariants.{At, Nothing}
+use Rattle.std.specs.Prelude.{Option, Some, None}
 use Rattle.node.specs.Matches.{found_or, longest_from, shortest_from, longest_in, shortest_in}
 
 -- a length that the node at depth d holds, at most the query's
@@ -28,15 +27,15 @@ pub record Best (R : ℕ → ℕ → Type 0) (P : ℕ → Type 0) (bitmap key b 
   pub best : (l : ℕ) → P l → has bitmap (data_bit key l) ≡ true → R l size
 
 -- what a match may answer: that bit, or nothing where no such length has its bit set
-abbrev pub Matches : (ℕ → ℕ → Type 0) → (ℕ → Type 0) → ℕ → ℕ → Found → Type 0
-Matches R P bitmap key (At b) = Best R P bitmap key b
-Matches R P bitmap key Nothing = (l : ℕ) → P l → has bitmap (data_bit key l) ≡ false
+abbrev pub Matches : (ℕ → ℕ → Type 0) → (ℕ → Type 0) → ℕ → ℕ → Option ℕ → Type 0
+Matches R P bitmap key (Some b) = Best R P bitmap key b
+Matches R P bitmap key None = (l : ℕ) → P l → has bitmap (data_bit key l) ≡ false
 
 -- the longest, and the shortest, of the lengths that a node holds
-abbrev pub IsLongest : ℕ → ℕ → ℕ → ℕ → Found → Type 0
+abbrev pub IsLongest : ℕ → ℕ → ℕ → ℕ → Option ℕ → Type 0
 IsLongest bitmap d key len = Matches (λ l s. l ≤ s) (Held d len) bitmap key
 
-abbrev pub IsShortest : ℕ → ℕ → ℕ → ℕ → Found → Type 0
+abbrev pub IsShortest : ℕ → ℕ → ℕ → ℕ → Option ℕ → Type 0
 IsShortest bitmap d key len = Matches (λ l s. s ≤ l) (Held d len) bitmap key
 
 -- ---- one answer
@@ -51,30 +50,30 @@ module _ (R : ℕ → ℕ → Type 0) (P : ℕ → Type 0) (bitmap key : ℕ) (a
   not_none x n = false≢true (sym (n x.size x.held) ∙ ap (has bitmap) (sym x.there) ∙ x.set)
 
   -- two answers of one match are one
-  pub match_unique : (f g : Found) → Matches R P bitmap key f → Matches R P bitmap key g → f ≡ g
-  match_unique (At a) (At b) x y = ap At (x.there ∙ ap (data_bit key) (anti x.size y.size (as_good x y) (as_good y x)) ∙ sym y.there)
-  match_unique (At a) Nothing x y = absurd (not_none x y)
-  match_unique Nothing (At b) x y = absurd (not_none y x)
-  match_unique Nothing Nothing x y = refl
+  pub match_unique : (f g : Option ℕ) → Matches R P bitmap key f → Matches R P bitmap key g → f ≡ g
+  match_unique (Some a) (Some b) x y = ap (λ (b : ℕ). Some b) (x.there ∙ ap (data_bit key) (anti x.size y.size (as_good x y) (as_good y x)) ∙ sym y.there)
+  match_unique (Some a) None x y = absurd (not_none x y)
+  match_unique None (Some b) x y = absurd (not_none y x)
+  match_unique None None x y = refl
 
-pub longest_unique : (bitmap d key len : ℕ) (f g : Found) → IsLongest bitmap d key len f → IsLongest bitmap d key len g → f ≡ g
+pub longest_unique : (bitmap d key len : ℕ) (f g : Option ℕ) → IsLongest bitmap d key len f → IsLongest bitmap d key len g → f ≡ g
 longest_unique bitmap d key len = match_unique (λ l s. l ≤ s) (Held d len) bitmap key (λ a b h k. le_antisymm h k)
 
-pub shortest_unique : (bitmap d key len : ℕ) (f g : Found) → IsShortest bitmap d key len f → IsShortest bitmap d key len g → f ≡ g
+pub shortest_unique : (bitmap d key len : ℕ) (f g : Option ℕ) → IsShortest bitmap d key len f → IsShortest bitmap d key len g → f ≡ g
 shortest_unique bitmap d key len = match_unique (λ l s. s ≤ l) (Held d len) bitmap key (λ a b h k. le_antisymm k h)
 
 -- ---- the scans
 
 module _ (R : ℕ → ℕ → Type 0) (P Q : ℕ → Type 0) (bitmap key : ℕ) where
   -- the same lengths, the same answers
-  same_lengths : ((m : ℕ) → P m → Q m) → ((m : ℕ) → Q m → P m) → (f : Found) → Matches R P bitmap key f → Matches R Q bitmap key f
-  same_lengths to back (At b) x =
+  same_lengths : ((m : ℕ) → P m → Q m) → ((m : ℕ) → Q m → P m) → (f : Option ℕ) → Matches R P bitmap key f → Matches R Q bitmap key f
+  same_lengths to back (Some b) x =
       record { size = x.size; held = to x.size x.held; there = x.there; set = x.set; best = λ m q. x.best m (back m q) }
-  same_lengths to back Nothing x = λ m q. x m (back m q)
+  same_lengths to back None x = λ m q. x m (back m q)
 
   -- one length more, asked first: it is the best if its bit is set, else the others decide
   one_more : (l : ℕ) → P l → ((m : ℕ) → P m → R m l) → ((m : ℕ) → P m → (m ≡ l) ⊎ Q m) → ((m : ℕ) → Q m → P m)
-      → (other : Found) → Matches R Q bitmap key other → Matches R P bitmap key (found_or bitmap key l other)
+      → (other : Option ℕ) → Matches R Q bitmap key other → Matches R P bitmap key (found_or bitmap key l other)
   unfolding found_or
   one_more l p last split into other x = go (has bitmap (data_bit key l)) refl other x
     where
@@ -86,16 +85,16 @@ module _ (R : ℕ → ℕ → Type 0) (P Q : ℕ → Type 0) (bitmap key : ℕ) 
       none e m (inl q) n = ap (λ (y : ℕ). has bitmap (data_bit key y)) q ∙ e
       none e m (inr q) n = n q
 
-      go : (b : Bool) → has bitmap (data_bit key l) ≡ b → (o : Found) → Matches R Q bitmap key o → Matches R P bitmap key (cond b (At (data_bit key l)) o)
+      go : (b : Bool) → has bitmap (data_bit key l) ≡ b → (o : Option ℕ) → Matches R Q bitmap key o → Matches R P bitmap key (cond b (Some (data_bit key l)) o)
       go true e o y = record { size = l; held = p; there = refl; set = e; best = λ m h s. last m h }
-      go false e (At b) y = record {
+      go false e (Some b) y = record {
         size = y.size;
         held = into y.size y.held;
         there = y.there;
         set = y.set;
         best = λ m h s. y.best m (clear e m (split m h) s) s;
       }
-      go false e Nothing y = λ m h. none e m (split m h) (y m)
+      go false e None y = λ m h. none e m (split m h) (y m)
 
 -- from one length up to another
 abbrev Between : ℕ → ℕ → ℕ → Type 0
@@ -109,7 +108,7 @@ longest_from_lem : (bitmap key d n : ℕ) → Matches (λ l s. l ≤ s) (Between
 unfolding longest_from
 longest_from_lem bitmap key d zero =
     one_more (λ l s. l ≤ s) (Between d (d + 0)) Never bitmap key d (le_refl d, omega arith) (λ m h. omega arith) (λ m h. inl (omega arith)) (λ m h. absurd h)
-    Nothing (λ l h. absurd h)
+    None (λ l h. absurd h)
 longest_from_lem bitmap key d (suc n) =
     one_more (λ l s. l ≤ s) (Between d (d + suc n)) (Between d (d + n)) bitmap key (d + suc n) (omega arith, le_refl (d + suc n)) (λ m h. h.1)
     (λ m h. at_end m h (ℕ_discrete m (d + suc n))) (λ m h. omega arith) (longest_from bitmap key d n) (longest_from_lem bitmap key d n)
@@ -122,7 +121,7 @@ shortest_from_lem : (bitmap key l n : ℕ) → Matches (λ m s. s ≤ m) (Betwee
 unfolding shortest_from
 shortest_from_lem bitmap key l zero =
     one_more (λ m s. s ≤ m) (Between l (l + 0)) Never bitmap key l (le_refl l, omega arith) (λ m h. h.0) (λ m h. inl (omega arith)) (λ m h. absurd h)
-    Nothing (λ m h. absurd h)
+    None (λ m h. absurd h)
 shortest_from_lem bitmap key l (suc n) =
     one_more (λ m s. s ≤ m) (Between l (l + suc n)) (Between (suc l) (suc l + n)) bitmap key l (le_refl l, omega arith) (λ m h. h.0)
     (λ m h. at_start m h (ℕ_discrete m l)) (λ m h. omega arith) (shortest_from bitmap key (suc l) n) (shortest_from_lem bitmap key (suc l) n)

@@ -2,15 +2,20 @@
 // What a mask and a match mean is said by prefixes, in specs/Masks.antt and specs/Matches.antt.
 #![tactic(auto)]
 
-ghost use Rattle.std.specs.Prelude.{◌≡◌, ◌<◌};
+ghost use Rattle.std.specs.Prelude.{◌≡◌, ℕ, ◌+◌, ◌-◌, ◌<◌, ◌≤◌, MatchOption};
 ghost use Rattle.std.specs.Int.Bits.{bit_and};
 ghost use Rattle.bits.specs.Bits.{has, count, set_below};
-ghost use Rattle.places.specs.Places.{rest_at};
+ghost use Rattle.tiers.specs.Tiers.{stride};
+ghost use Rattle.places.specs.Places.{window};
 ghost use Rattle.node.specs.Nodes.{empty_node, set_data, unset_data, set_child, unset_child};
-ghost use Rattle.node.specs.Masks.{InTree, data_lpm, data_cover, child_cover};
-ghost use Rattle.node.specs.Matches.{longest_in, shortest_in};
+ghost use Rattle.node.specs.Masks.{data_lpm, data_cover, child_cover};
+ghost use Rattle.node.specs.Matches.{shared, longest_in, shortest_in};
 
-use tiers::{CellAt, ChildPool, NodeAt};
+pub mod views;
+
+use bits::Bit;
+use tiers::{CellAt, ChildPool, Kind, NodeAt, wide};
+use views::View;
 
 #[derive(Clone, Copy)]
 pub struct MultiBitNode {
@@ -20,66 +25,49 @@ pub struct MultiBitNode {
     pub data_idx: CellAt,
 }
 
-// What a match in a node finds: the data bit of a stored rule, or nothing.
-#[derive(Clone, Copy)]
-pub enum Found {
-    At(u32),
-    Nothing,
-}
-
-// The data bits of the prefixes in the node at a depth that cover the query.
-pub fn data_lpm_mask(depth: u32, key: u32, len: u32) -> u32
-    requires { InTree depth len }
-    ensures { result ≡ data_lpm depth key len }
+// The data bits of the prefixes in the node that cover the query.
+pub fn data_lpm_mask(v: View) -> u32
+    ensures { result ≡ data_lpm v.depth v.key v.len }
 {
-    let place = places::row_place(depth, key);
-    if len - depth < 4 {
-        patterns::path_bits(len - depth, place)
+    let place = places::rest_place(v.rest, v.depth, v.key);
+    if v.len - v.depth < 4 {
+        patterns::path_bits(v.len - v.depth, place)
     } else {
         patterns::path_bits(4, place)
     }
 }
 
-// The same as data_lpm_mask, from what is left of the key below the depth.
-pub fn rest_lpm_mask(rest: u32, depth: u32, key: u32, len: u32) -> u32
-    requires { InTree depth len × (rest ≡ rest_at key depth) }
-    ensures { result ≡ data_lpm depth key len }
+// The level and the place of the query in a row of the patterns, where its length is in the node.
+fn row_of(v: View) -> Option<(usize, usize)>
+    ensures { MatchOption result (v.depth + stride ≤ v.len) (λ r. (r.0 ≡ v.len - v.depth) × (r.1 ≡ window v.key v.depth 4) × (v.len < v.depth + stride)) }
 {
-    let row_place = places::rest_place(rest, depth, key);
-    if len - depth < 4 {
-        patterns::path_bits(len - depth, row_place)
+    if v.len - v.depth < ChildPool::STRIDE {
+        Some((
+            wide(v.len - v.depth),
+            wide(places::row_place(v.depth, v.key)),
+        ))
     } else {
-        patterns::path_bits(4, row_place)
+        None
     }
 }
 
-// The data bits of the prefixes in the node at a depth that the query covers; none where the query's length isn't in the node.
-pub fn data_cover_mask(depth: u32, key: u32, len: u32) -> u32
-    requires { InTree depth len }
-    ensures { result ≡ data_cover depth key len }
+// The data bits of the prefixes in the node that the query covers; none where the query's length isn't in the node.
+pub fn data_cover_mask(v: View) -> u32
+    ensures { result ≡ data_cover v.depth v.key v.len }
 {
-    if len - depth < ChildPool::STRIDE {
-        patterns::data_cover_pattern(
-            tiers::wide(len - depth),
-            tiers::wide(places::row_place(depth, key)),
-        )
-    } else {
-        0
+    match row_of(v) {
+        Some((level, place)) => patterns::data_cover_pattern(level, place),
+        None => 0,
     }
 }
 
-// The children of the node at a depth that the query covers; none where the query's length isn't in the node.
-pub fn child_cover_mask(depth: u32, key: u32, len: u32) -> u32
-    requires { InTree depth len }
-    ensures { result ≡ child_cover depth key len }
+// The children of the node that the query covers; none where the query's length isn't in the node.
+pub fn child_cover_mask(v: View) -> u32
+    ensures { result ≡ child_cover v.depth v.key v.len }
 {
-    if len - depth < ChildPool::STRIDE {
-        patterns::child_cover_pattern(
-            tiers::wide(len - depth),
-            tiers::wide(places::row_place(depth, key)),
-        )
-    } else {
-        0
+    match row_of(v) {
+        Some((level, place)) => patterns::child_cover_pattern(level, place),
+        None => 0,
     }
 }
 
@@ -91,20 +79,19 @@ impl MultiBitNode {
         MultiBitNode {
             data_bitmap: 0,
             child_bitmap: 0,
-            children_idx: NodeAt::empty(),
-            data_idx: CellAt::empty(),
+            children_idx: NodeAt::EMPTY,
+            data_idx: CellAt::EMPTY,
         }
     }
 
-    pub fn has_data_bit(self, bit: u32) -> bool
-        requires { bit < 31 }
+    // The bits, counts and slots of the two halves are one line each over the crate `bits`, by the names that the ported crate gives them.
+    pub fn has_data_bit(self, bit: Bit) -> bool
         ensures { result ≡ has self.data_bitmap bit }
     {
         bits::has_bit(self.data_bitmap, bit)
     }
 
-    pub fn set_data_bit(self, bit: u32) -> MultiBitNode
-        requires { bit < 31 }
+    pub fn set_data_bit(self, bit: Bit) -> MultiBitNode
         ensures { result ≡ set_data self bit }
     {
         let mut node = self;
@@ -112,8 +99,7 @@ impl MultiBitNode {
         node
     }
 
-    pub fn unset_data_bit(self, bit: u32) -> MultiBitNode
-        requires { bit < 31 }
+    pub fn unset_data_bit(self, bit: Bit) -> MultiBitNode
         ensures { result ≡ unset_data self bit }
     {
         let mut node = self;
@@ -121,15 +107,13 @@ impl MultiBitNode {
         node
     }
 
-    pub fn has_child_bit(self, bit: u32) -> bool
-        requires { bit < 32 }
+    pub fn has_child_bit(self, bit: Bit) -> bool
         ensures { result ≡ has self.child_bitmap bit }
     {
         bits::has_bit(self.child_bitmap, bit)
     }
 
-    pub fn set_child_bit(self, bit: u32) -> MultiBitNode
-        requires { bit < 32 }
+    pub fn set_child_bit(self, bit: Bit) -> MultiBitNode
         ensures { result ≡ set_child self bit }
     {
         let mut node = self;
@@ -137,8 +121,7 @@ impl MultiBitNode {
         node
     }
 
-    pub fn unset_child_bit(self, bit: u32) -> MultiBitNode
-        requires { bit < 32 }
+    pub fn unset_child_bit(self, bit: Bit) -> MultiBitNode
         ensures { result ≡ unset_child self bit }
     {
         let mut node = self;
@@ -161,82 +144,56 @@ impl MultiBitNode {
     }
 
     // The place of a data bit's value in the node's block of cells.
-    pub fn data_slot(self, bit: u32) -> u32
-        requires { bit < 31 }
+    pub fn data_slot(self, bit: Bit) -> u32
         ensures { result ≡ set_below self.data_bitmap bit }
     {
         bits::compute_slot(self.data_bitmap, bit)
     }
 
     // The place of a child in the node's block of nodes.
-    pub fn child_slot(self, bit: u32) -> u32
-        requires { bit < 32 }
+    pub fn child_slot(self, bit: Bit) -> u32
         ensures { result ≡ set_below self.child_bitmap bit }
     {
         bits::compute_slot(self.child_bitmap, bit)
     }
 
     // The longest rule of the node that covers the query.
-    pub fn data_lpm(self, depth: u32, key: u32, len: u32) -> Found
-        requires { InTree depth len }
-        ensures { result ≡ longest_in self.data_bitmap depth key len }
+    pub fn data_lpm(self, v: View) -> Option<Bit>
+        ensures { result ≡ longest_in self.data_bitmap v.depth v.key v.len }
     {
-        let present = self.data_bitmap & data_lpm_mask(depth, key, len);
-        if present == 0 {
-            return Found::Nothing;
-        }
-        Found::At(bits::highest_bit(present))
+        self.shared(v, bits::highest_bit)
     }
 
     // The shortest rule of the node that covers the query.
-    pub fn data_spm(self, depth: u32, key: u32, len: u32) -> Found
-        requires { InTree depth len }
-        ensures { result ≡ shortest_in self.data_bitmap depth key len }
+    pub fn data_spm(self, v: View) -> Option<Bit>
+        ensures { result ≡ shortest_in self.data_bitmap v.depth v.key v.len }
     {
-        let present = self.data_bitmap & data_lpm_mask(depth, key, len);
-        if present == 0 {
-            return Found::Nothing;
-        }
-        Found::At(bits::lowest_bit(present))
+        self.shared(v, bits::lowest_bit)
     }
 
-    // The same as data_lpm, from what is left of the key below the depth.
-    pub fn rest_lpm(self, rest: u32, depth: u32, key: u32, len: u32) -> Found
-        requires { InTree depth len × (rest ≡ rest_at key depth) }
-        ensures { result ≡ longest_in self.data_bitmap depth key len }
+    // One of the rules of the node that cover the query, as `pick` picks it of their bits.
+    fn shared<F: FnOnce(u32) -> Bit>(self, v: View, pick: F) -> Option<Bit>
+        requires { (n : ℕ) → 0 < n → F.pre pick n }
+        ensures { MatchOption result (shared self.data_bitmap v.depth v.key v.len ≡ 0) (λ r. F.post pick (shared self.data_bitmap v.depth v.key v.len) r) }
     {
-        let present = self.data_bitmap & rest_lpm_mask(rest, depth, key, len);
-        if present == 0 {
-            return Found::Nothing;
+        let bitmap = self.data_bitmap & data_lpm_mask(v);
+        if bitmap == 0 {
+            return None;
         }
-        Found::At(bits::highest_bit(present))
-    }
-
-    // The same as data_spm, from what is left of the key below the depth.
-    pub fn rest_spm(self, rest: u32, depth: u32, key: u32, len: u32) -> Found
-        requires { InTree depth len × (rest ≡ rest_at key depth) }
-        ensures { result ≡ shortest_in self.data_bitmap depth key len }
-    {
-        let present = self.data_bitmap & rest_lpm_mask(rest, depth, key, len);
-        if present == 0 {
-            return Found::Nothing;
-        }
-        Found::At(bits::lowest_bit(present))
+        Some(pick(bitmap))
     }
 
     // The rules of the node that the query covers, as data bits.
-    pub fn data_cover(self, depth: u32, key: u32, len: u32) -> u32
-        requires { InTree depth len }
-        ensures { result ≡ bit_and self.data_bitmap (data_cover depth key len) }
+    pub fn data_cover(self, v: View) -> u32
+        ensures { result ≡ bit_and self.data_bitmap (data_cover v.depth v.key v.len) }
     {
-        self.data_bitmap & data_cover_mask(depth, key, len)
+        self.data_bitmap & data_cover_mask(v)
     }
 
     // The children of the node that the query covers, as child bits.
-    pub fn child_cover(self, depth: u32, key: u32, len: u32) -> u32
-        requires { InTree depth len }
-        ensures { result ≡ bit_and self.child_bitmap (child_cover depth key len) }
+    pub fn child_cover(self, v: View) -> u32
+        ensures { result ≡ bit_and self.child_bitmap (child_cover v.depth v.key v.len) }
     {
-        self.child_bitmap & child_cover_mask(depth, key, len)
+        self.child_bitmap & child_cover_mask(v)
     }
 }

@@ -17,7 +17,7 @@ use Rattle.order.specs.declared.LexElem.{LexElem}
 use Rattle.order.specs.declared.LexElem.TheVariants.{Data, Child}
 use Rattle.order.specs.Order.{comes_before, how_many, is_elem, place_of, AtPlace}
 use Rattle.order.proofs.HowMany.{many_le, many_lt, many_most, many_fewer}
-use Rattle.order.proofs.Tables.{lex_order, decoded, stands}
+use Rattle.order.proofs.Tables.{lex_order, stands}
 use Rattle.order.proofs.WholeKeys.{key_of, length_of, whole, whole_same}
 
 -- ---- strict and total: the elements of the root are prefixes, and prefixes are so ordered
@@ -108,7 +108,7 @@ pub at_place : (e : LexElem) → is_elem e ≡ true → AtPlace (place_of e) e
 at_place e i = record { there = i; place_is = refl }
 
 -- and the table has it there
-pub at_entry : (e : LexElem) → is_elem e ≡ true → decoded (get_or lex_order (place_of e) 0) ≡ e
+pub at_entry : (e : LexElem) → is_elem e ≡ true → get_or lex_order (place_of e) (Data 0) ≡ e
 at_entry e i = at_place_same (stands (place_of e) (place_below e i)) (at_place e i)
 
 -- the order begins so (document 01)

@@ -44,6 +44,9 @@ fn entry(k: usize) -> u32
     PATTERNS[k]
 }
 
+// The three parts of the one table keep the names that the ported crate gives them, each one line over `entry`. Level and place are the two
+// indices of a row, below 5 and 16: asked here and by one function of `leaves`, so no type says it.
+
 // The bit of a level and place, and of all its ancestors.
 pub fn data_lpm_pattern(level: usize, place: usize) -> u32
     requires { (level < 5) × (place < 16) }

@@ -1,10 +1,10 @@
 -- Windows of a key, as the machine takes them: shifted down and masked, or shifted up where they run past the key. Assumes nothing.
 use mathlib.Core.Path.{◌≡◌, sym, ap, ap₂, ◌∙◌}
 use Prim.Native.Nat.{ℕ, ◌+◌, ◌-◌, ◌*◌, ◌/◌, ◌%◌, ◌^◌, ◌≤◌, ◌<◌}
-use native.Mathlib.Nat.{mod-lt, div-le_self, add_comm, mul-div_cancel, mul_assoc}
+use native.Mathlib.Nat.{mod-lt, add_comm, mul-div_cancel, mul_assoc}
 use native.Mathlib.Omega.{arith}
-use lib.Pow.{pow_pos, pow_mono, pow-add, shr-shr, field, mod-mod-pow}
-use lib.Bits.{bit_and, and_mask, and_le_r}
+use lib.Pow.{pow_pos, pow-add, shr-shr, field, mod-mod-pow}
+use lib.Bits.{bit_and, and_mask}
 use Rattle.bits.proofs.OneBit.{one_shl}
 use Rattle.prefix.specs.Prefix.{width, first}
 use Rattle.tiers.specs.Tiers.{stride}
@@ -42,15 +42,6 @@ placed key len x l e q =
     ap₂ (λ (y z : ℕ). y + (z - 1)) q (one_shl 32 h)
     ∙ add_comm (first len key % 2 ^ l) (2 ^ l - 1)
     ∙ ap (λ (y : ℕ). (2 ^ y - 1) + first len key % 2 ^ y) e
-
--- and that sum is small
-pub small : (x y l : ℕ) → l ≤ 5 → bit_and x 31 / y + (1 * 2 ^ l % 2 ^ 32 - 1) < 2 ^ 32
-small x y l h =
-    let a = and_le_r x 31 in
-    let b = div-le_self (bit_and x 31) y in
-    let p : 2 ^ l ≤ 2 ^ 5 = pow_mono h in
-    let q = one_shl {b = l} 32 (omega arith) in
-    omega arith
 
 -- the five bits after the depth are the child
 pub child_in : (key d : ℕ) → d + stride ≤ width → bit_and (key / 2 ^ (32 - d - 5)) 31 ≡ child_bit d key

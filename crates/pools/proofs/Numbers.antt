@@ -13,8 +13,7 @@ use Rattle.tiers.specs.Tiers.{spacings, spacing_of, section_length}
 use Rattle.tiers.proofs.Tiers.{tier_lt}
 use Rattle.blocks.specs.declared.Pool.{Pool}
 use Rattle.blocks.specs.declared.Block.{Block}
-use Rattle.blocks.specs.declared.Asked.{Asked}
-use Rattle.blocks.specs.Blocks.{asked_as, free_of, section_of, first_out, within_of, ask_of, less_of, take_of, room_of, more_of, give_of}
+use Rattle.blocks.specs.Blocks.{Asked, asked_as, free_of, section_of, first_out, within_of, ask_of, less_of, take_of, room_of, more_of, give_of}
 use Rattle.blocks.specs.Growth.{tier_in, move_ask_of, move_of, grow_ask_of, grow_of, shrink_ask_of, shrink_of, singles_of, chain_ask_of}
 use Rattle.blocks.proofs.Moves.{take_pool}
 use Rattle.blocks.proofs.Shape.{take_shape, give_shape}

@@ -1,2 +1,1 @@
-pub mod SmallWays
 pub mod Starred

@@ -12,15 +12,15 @@ use Rattle.blocks.specs.Growth.{grow_ask_of, grow_of, stays_of, singles_of, chai
 use Rattle.blocks.specs.Shape.{sections_of, sane_of}
 use Rattle.store.specs.Moves.{run_of, open_of, widen_cells, widen_nodes}
 use Rattle.store.specs.Words.{cell_at, save_cell, node_at, save_node}
-use Rattle.walk.specs.Lookups.{better, counted, longest_step, longest_from as longest_from_node, longest_sight}
+use Rattle.walk.specs.Lookups.{better, walk_step, walk_from, walk_of}
 use Rattle.walk.specs.Steps.{sound_of, children_within, data_within, step_of}
 use Rattle.walk.specs.Trails.{trail_step, trail_from, trail_of}
 use Rattle.entry.specs.First.{lookup_shaped, edit_shaped, sane_state, lookup_first, edit_first}
 use Rattle.entry.specs.Fresh.{empty_nodes}
 use Rattle.edits.specs.Adding.{keep_of, chain_of, make_of}
 use Rattle.map.specs.Fresh.{fresh_of}
-use Rattle.map.specs.Inserts.{below_of, arrived_of, insert_of}
-use Rattle.map.specs.Lookups.{answer_of, longest_of}
+use Rattle.map.specs.Inserts.{below_of, arrived_of, walked_of, insert_of}
+use Rattle.map.specs.Lookups.{told_of, answer_of, longest_of}
 use Rattle.readings.specs.Small.{longest_after, said_of}
 use Rattle.readings.specs.Reading.{reading_of}
 use Rattle.readings.specs.Starred.{starred, AllHold}
@@ -29,8 +29,8 @@ pub all_starred : AllHold starred
 unfolding reading_of longest_after said_of is_ancestor is_child_below lead bit_at set_below with_bit word first masked
     spacing_of tier_of section_length section_start data_bit child_bit path_of length_at path_in covers_query found_or
     longest_from_level longest_in ask_of less_of take_of grow_ask_of grow_of stays_of singles_of chain_ask_of
-    sections_of sane_of run_of open_of widen_cells widen_nodes cell_at save_cell node_at save_node better counted
-    longest_step longest_from_node longest_sight sound_of children_within data_within step_of trail_step trail_from
+    sections_of sane_of run_of open_of widen_cells widen_nodes cell_at save_cell node_at save_node better
+    walk_step walk_from walk_of sound_of children_within data_within step_of trail_step trail_from
     trail_of lookup_shaped edit_shaped sane_state lookup_first edit_first empty_nodes keep_of chain_of make_of fresh_of
-    below_of arrived_of insert_of answer_of longest_of
+    below_of arrived_of walked_of insert_of told_of answer_of longest_of
 all_starred = (refl, (refl, (refl, (refl, (refl, (refl, (refl, (refl, (refl, (refl, (refl, (refl, (refl, (refl, (refl, (refl, (refl, tt)))))))))))))))))

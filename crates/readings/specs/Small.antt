@@ -3,7 +3,8 @@ use Rattle.std.specs.Prelude.{cond, ℕ, eqb, replicate}
 use Rattle.store.specs.Words.{cell_as}
 use Rattle.map.specs.declared.Answer.{Answer}
 use Rattle.map.specs.declared.Edited.{Edited}
-use Rattle.map.specs.Answers.{Values, values_of}
+use Rattle.map.specs.declared.Values.{Values}
+use Rattle.map.specs.Answers.{values_of}
 use Rattle.map.specs.Memory.{Memory, memory}
 use Rattle.map.specs.Fresh.{fresh_of}
 use Rattle.map.specs.Inserts.{insert_of}

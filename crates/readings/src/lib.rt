@@ -7,7 +7,8 @@ mod small;
 ghost use Rattle.std.specs.Prelude.{◌≡◌};
 ghost use Rattle.readings.specs.Reading.{reading_of};
 
-use tiers::{ChildPool, DataPool};
+use node::views::View;
+use tiers::{ChildPool, DataPool, Kind};
 
 // What is asked.
 #[derive(Clone, Copy)]
@@ -22,7 +23,8 @@ pub enum Input {
     Longest { rules: u32, key: u32, len: u32 },
 }
 
-// What it gives: a number, what the map says, or nothing where the input is outside the function's.
+// What it gives: a number, what the map says, or nothing where the input is outside the function's. (No Option of a reading: the list
+// names a reading as it stands, as `all_starred` has it, and one arm alone gives Outside.)
 #[derive(Clone, Copy)]
 pub enum Reading {
     Number(usize),
@@ -36,75 +38,36 @@ pub enum Reading {
     Outside,
 }
 
-fn data_bit(key: u32, len: u32) -> Reading
-    ensures { result ≡ reading_of (Input.DataBit key len) }
-{
-    if len <= 32 {
-        return Reading::Number(tiers::wide(places::data_bit(key, len)));
-    }
-    Reading::Outside
-}
-
-fn lpm_mask(depth: u32, key: u32, len: u32) -> Reading
-    ensures { result ≡ reading_of (Input.LpmMask depth key len) }
-{
-    if depth % 5 != 0 {
-        return Reading::Outside;
-    }
-    if len < depth {
-        return Reading::Outside;
-    }
-    if len <= 32 {
-        return Reading::Number(tiers::wide(node::data_lpm_mask(depth, key, len)));
-    }
-    Reading::Outside
-}
-
-fn child_bit(depth: u32, key: u32) -> Reading
-    ensures { result ≡ reading_of (Input.ChildBit depth key) }
-{
-    if depth <= 27 {
-        return Reading::Number(tiers::wide(places::child_bit(depth, key)));
-    }
-    Reading::Outside
-}
-
-fn lpm_entry(level: usize, place: usize) -> Reading
-    ensures { result ≡ reading_of (Input.LpmEntry level place) }
-{
-    if level < 5 {
-        if place < 16 {
-            return Reading::Number(tiers::wide(patterns::data_lpm_pattern(level, place)));
-        }
-        return Reading::Outside;
-    }
-    Reading::Outside
-}
-
-fn child_cover_entry(level: usize, place: usize) -> Reading
-    ensures { result ≡ reading_of (Input.ChildCoverEntry level place) }
-{
-    if level < 5 {
-        if place < 16 {
-            return Reading::Number(tiers::wide(patterns::child_cover_pattern(level, place)));
-        }
-        return Reading::Outside;
-    }
-    Reading::Outside
-}
-
 // The reading of an input.
+#[tactic(auto, unfolding(crate::specs::Reading::reading_of, crate::specs::Small::said_of))]
 pub fn read(input: Input) -> Reading
     ensures { result ≡ reading_of input }
 {
-    match input {
-        Input::DataBit { key, len } => data_bit(key, len),
-        Input::LpmMask { depth, key, len } => lpm_mask(depth, key, len),
-        Input::ChildBit { depth, key } => child_bit(depth, key),
-        Input::LpmEntry { level, place } => lpm_entry(level, place),
-        Input::ChildCoverEntry { level, place } => child_cover_entry(level, place),
-        Input::DataTier { count } => Reading::Number(DataPool::tier(count)),
-        Input::ChildTier { count } => Reading::Number(ChildPool::tier(count)),
-        Input::Longest { rules, key, len } => small::longest(rules, key, len),
-    }
+    let number = match input {
+        Input::DataBit { key, len } if len <= 32 => places::data_bit(key, len).number(),
+        Input::LpmMask { depth, key, len } if depth % 5 == 0 && depth <= len && len <= 32 => {
+            node::data_lpm_mask(View::at(depth, key, len))
+        }
+        Input::ChildBit { depth, key } if depth <= 27 => places::child_bit(depth, key).number(),
+        Input::LpmEntry { level, place } if level < 5 && place < 16 => {
+            patterns::data_lpm_pattern(level, place)
+        }
+        Input::ChildCoverEntry { level, place } if level < 5 && place < 16 => {
+            patterns::child_cover_pattern(level, place)
+        }
+        Input::DataTier { count } => return Reading::Number(DataPool::tier(count).number()),
+        Input::ChildTier { count } => return Reading::Number(ChildPool::tier(count).number()),
+        Input::Longest { rules, key, len } if rules <= 2 => {
+            let v = small::longest(rules, key, len).values();
+            return Reading::Said {
+                number: v.number,
+                len: v.len,
+                nodes: v.nodes,
+                key: v.key,
+                value: v.value,
+            };
+        }
+        _ => return Reading::Outside,
+    };
+    Reading::Number(tiers::wide(number))
 }

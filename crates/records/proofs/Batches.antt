@@ -9,7 +9,8 @@ use lib.Seq.{get_or-drop}
 use Rattle.octets.specs.Octets.{word_in, written}
 use Rattle.map.specs.declared.State.{State}
 use Rattle.map.specs.declared.Edited.{Edited}
-use Rattle.map.specs.Answers.{Values, values_of}
+use Rattle.map.specs.declared.Values.{Values}
+use Rattle.map.specs.Answers.{values_of}
 use Rattle.map.specs.Memory.{Memory}
 use Rattle.records.specs.Records.{record_bytes, op_in, len_in, key_in, value_in, good_in, reply_of, bad_record, call_of}
 use Rattle.records.specs.Runs.{Run, run, after, one_of, wholes_of, values_in, replies_of}

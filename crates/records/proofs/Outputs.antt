@@ -1,15 +1,17 @@
 -- What a run writes: the replies one after the other from the front on, and nothing behind them. Assumes nothing.
 use mathlib.Core.Path.{◌≡◌, refl, sym, ap, ◌∙◌}
 use mathlib.Core.Bool.{Bool, true, false, cond}
-use mathlib.Core.List.{List, [], ◌∷◌, ◌++◌, append_assoc}
+use mathlib.Core.List.{List, ◌++◌, append_assoc}
 use Prim.Native.Nat.{ℕ, zero, suc, ◌+◌, ◌-◌, ◌*◌, ◌≤◌}
-use native.Mathlib.Nat.{suc-mul, not-suc-le-zero}
+use native.Mathlib.Nat.{suc-mul}
 use native.Mathlib.Omega.{arith}
-use lib.ListN.{length, set, drop, length-append, length-drop}
+use lib.ListN.{length, drop, length-append, length-drop}
 use lib.Seq.{drop-drop}
 use Rattle.octets.specs.Octets.{written}
+use Rattle.octets.proofs.Written.{written_between}
 use Rattle.map.specs.declared.Edited.{Edited}
-use Rattle.map.specs.Answers.{Values, values_of}
+use Rattle.map.specs.declared.Values.{Values}
+use Rattle.map.specs.Answers.{values_of}
 use Rattle.map.specs.Memory.{Memory}
 use Rattle.records.specs.Records.{record_bytes, op_in, len_in, key_in, value_in, good_in, reply_of, bad_record, call_of}
 use Rattle.records.specs.Runs.{Run, run, one_of, wholes_of, values_in, replies_of}
@@ -18,24 +20,6 @@ use Rattle.records.specs.Runs.{Run, run, one_of, wholes_of, values_in, replies_o
 pub reply_length : (v : Values) → length (reply_of v) ≡ record_bytes
 unfolding reply_of
 reply_length v = refl
-
--- one byte between what stands before and behind
-set_between : (a : List ℕ) (y : ℕ) (b : List ℕ) (x : ℕ) → set (a ++ (y ∷ b)) (length a) x ≡ a ++ (x ∷ []) ++ b
-set_between [] y b x = refl
-set_between (z ∷ a) y b x = ap (λ (l : List ℕ). z ∷ l) (set_between a y b x)
-
--- bytes written right behind a part: the part stays, and so does what is behind them
-pub written_between : (a b bs : List ℕ) → length bs ≤ length b → written (a ++ b) (length a) bs ≡ a ++ (bs ++ drop (length bs) b)
-unfolding written
-written_between a b [] h = refl
-written_between a [] (x ∷ bs) h = absurd (not-suc-le-zero h)
-written_between a (y ∷ b) (x ∷ bs) h =
-    let e : length (a ++ (x ∷ [])) ≡ length a + 1 = length-append a (x ∷ []) in
-    let f : length bs ≤ length b = omega arith in
-    ap (λ (l : List ℕ). written l (length a + 1) bs) (set_between a y b x)
-    ∙ ap (λ (i : ℕ). written (a ++ (x ∷ []) ++ b) i bs) (sym e)
-    ∙ written_between (a ++ (x ∷ [])) b bs f
-    ∙ append_assoc a (x ∷ []) (bs ++ drop (length bs) b)
 
 -- one record writes its reply at its own place
 one_out_of :

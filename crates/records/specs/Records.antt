@@ -2,7 +2,8 @@
 use Rattle.std.specs.Prelude.{ℕ, ◌+◌, ◌%◌, Bool, ◌&&◌, ◌||◌, cond, List, ◌∷◌, ◌++◌, leb, eqb, get_or}
 use Rattle.octets.specs.Octets.{word_in, bytes_of}
 use Rattle.store.specs.Words.{cell_as}
-use Rattle.map.specs.Answers.{Values, values}
+use Rattle.map.specs.declared.Values.{Values}
+use Rattle.map.specs.Answers.{values}
 use Rattle.map.specs.declared.State.{State}
 use Rattle.map.specs.declared.Edited.{Edited}
 use Rattle.map.specs.Memory.{Memory, edited}

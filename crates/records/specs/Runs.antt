@@ -1,7 +1,8 @@
 -- A run of records: each is answered in turn on the state and memory that the one before left. Assumes nothing.
 use Rattle.std.specs.Prelude.{ℕ, zero, suc, ◌*◌, cond, List, [], ◌++◌}
 use Rattle.octets.specs.Octets.{written}
-use Rattle.map.specs.Answers.{Values, values_of}
+use Rattle.map.specs.declared.Values.{Values}
+use Rattle.map.specs.Answers.{values_of}
 use Rattle.map.specs.declared.State.{State}
 use Rattle.map.specs.Memory.{Memory}
 use Rattle.records.specs.Records.{record_bytes, op_in, len_in, key_in, value_in, good_in, reply_of, bad_record, call_of}

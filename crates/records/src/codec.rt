@@ -1,64 +1,84 @@
-// An answer's twelve bytes, and whether twelve bytes are a good record.
-ghost use Rattle.std.specs.Prelude.{◌≡◌, ◌+◌, ◌≤◌, length};
+// A record's twelve bytes read, and an answer's twelve bytes written.
+ghost use Rattle.std.specs.Prelude.{◌≡◌, ◌+◌, ◌≤◌, ◌<◌, false, length, MatchOption};
 ghost use Rattle.octets.specs.Octets.{written};
-ghost use Rattle.map.specs.Answers.{values, values_of};
-ghost use Rattle.records.specs.Records.{good_in, reply_of};
+ghost use Rattle.records.specs.Records.{op_in, len_in, key_in, value_in, good_in, reply_of};
+ghost use Rattle.records.specs.Operations.{Named, IsRecordIn};
 
-use map::Answer;
+use map::Values;
 use octets::{put_word, word_at};
 
-// Number, length, node count, zero, key and value, written from `at` on.
-pub fn put_reply(out: &mut [u8], at: usize, number: u32, len: u32, nodes: u32, key: u32, value: u32)
-    requires { at + 12 ≤ length out.old }
-    ensures { out.new ≡ written out.old at (reply_of (values number len nodes key value)) }
-{
-    out[at] = (number % 256) as u8;
-    out[at + 1] = (len % 256) as u8;
-    out[at + 2] = (nodes % 256) as u8;
-    out[at + 3] = 0;
-    put_word(out, at + 4, key);
-    put_word(out, at + 8, value);
+// What a record asks.
+#[derive(Clone, Copy, Debug, PartialEq, Eq)]
+pub enum Operation {
+    Insert,
+    Remove,
+    Exact,
+    Longest,
+    Shortest,
 }
 
-// An answer, written from `at` on.
-pub fn put_answer(out: &mut [u8], at: usize, a: Answer)
-    requires { at + 12 ≤ length out.old }
-    ensures { out.new ≡ written out.old at (reply_of (values_of a)) }
-{
-    match a {
-        Answer::Started => put_reply(out, at, 0, 0, 0, 0, 0),
-        Answer::Added(k, l) => put_reply(out, at, 0, l, 0, k, 0),
-        Answer::Replaced(k, l, v) => put_reply(out, at, 8, l, 0, k, v),
-        Answer::Removed(k, l, v) => put_reply(out, at, 0, l, 0, k, v),
-        Answer::Found(k, l, v, n) => put_reply(out, at, 0, l, n, k, v),
-        Answer::TooLong => put_reply(out, at, 1, 0, 0, 0, 0),
-        Answer::Missing(n) => put_reply(out, at, 2, 0, n, 0, 0),
-        Answer::WrongSlice => put_reply(out, at, 3, 0, 0, 0, 0),
-        Answer::NoRoom => put_reply(out, at, 4, 0, 0, 0, 0),
-        Answer::Broken => put_reply(out, at, 5, 0, 0, 0, 0),
+// A number that names no operation.
+#[derive(Clone, Copy, Debug, PartialEq, Eq)]
+pub struct UnknownOperation(pub u8);
+
+impl TryFrom<u8> for Operation {
+    type Error = UnknownOperation;
+
+    ghost try_from_gives = { Named };
+
+    fn try_from(number: u8) -> Result<Operation, UnknownOperation> {
+        match number {
+            1 => Ok(Operation::Insert),
+            2 => Ok(Operation::Remove),
+            3 => Ok(Operation::Exact),
+            4 => Ok(Operation::Longest),
+            5 => Ok(Operation::Shortest),
+            _ => Err(UnknownOperation(number)),
+        }
     }
 }
 
-// Is the record at `at` a good one?
-pub fn good(s: &[u8], at: usize) -> bool
+// A good record: the operation, the prefix, and the value of an insert.
+#[derive(Clone, Copy, Debug, PartialEq, Eq)]
+pub struct Record {
+    pub op: Operation,
+    pub len: u32,
+    pub key: u32,
+    pub value: u32,
+}
+
+// The record at `at`, where it is a good one. (The definitions index the input, so that the bytes are there stays a premise.)
+#[tactic(auto, unfolding(crate::specs::Records::good_in))]
+pub fn record_at(s: &[u8], at: usize) -> Option<Record>
     requires { at + 12 ≤ length s.now }
-    ensures { result ≡ good_in s.now at }
+    ensures { MatchOption result (good_in s.now at ≡ false) (λ r. IsRecordIn s.now at r) }
 {
-    let op = s[at];
-    if op < 1 {
-        return false;
+    let op = Operation::try_from(s[at]).ok()?;
+    let value = word_at(s, at + 8);
+    if s[at + 2] != 0 || s[at + 3] != 0 {
+        return None;
     }
-    if 5 < op {
-        return false;
+    if op != Operation::Insert && value != 0 {
+        return None;
     }
-    if s[at + 2] != 0 {
-        return false;
-    }
-    if s[at + 3] != 0 {
-        return false;
-    }
-    if op == 1 {
-        return true;
-    }
-    word_at(s, at + 8) == 0
+    Some(Record {
+        op,
+        len: u32::from(s[at + 1]),
+        key: word_at(s, at + 4),
+        value,
+    })
+}
+
+// Number, length, node count, zero, key and value, written from `at` on.
+#[tactic(auto, using(crate::proofs::Replies::reply_written))]
+pub fn put_reply(out: &mut [u8], at: usize, values: Values)
+    requires { at + 12 ≤ length out.old }
+    ensures { out.new ≡ written out.old at (reply_of values) }
+{
+    out[at] = (values.number % 256) as u8;
+    out[at + 1] = (values.len % 256) as u8;
+    out[at + 2] = (values.nodes % 256) as u8;
+    out[at + 3] = 0;
+    put_word(out, at + 4, values.key);
+    put_word(out, at + 8, values.value);
 }

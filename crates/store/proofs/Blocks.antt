@@ -7,9 +7,9 @@ use mathlib.Core.Logic.{◌⊎◌, inl, inr}
 use Prim.Native.Nat.{ℕ, suc, ◌+◌, ◌-◌, ◌≤◌, ◌<◌}
 use native.Mathlib.Omega.{arith}
 use native.Mathlib.Decide.{dec_lt, ℕ_discrete}
-use Rattle.store.specs.Moves.{run_of, lift_of, open_of, close_of}
+use Rattle.store.specs.Moves.{move_of, run_of, lift_of, open_of, close_of}
 use Rattle.store.proofs.Items.{Items}
-use Rattle.store.proofs.Moves.{move_of, Outside, Clear, Ran, ran, Raised, raised, move_room, run_room, lift_keeps}
+use Rattle.store.proofs.Moves.{Outside, Clear, Ran, ran, Raised, raised, move_room, run_room, lift_keeps}
 
 -- the n items that stood at a stand at t in their order, with x among them at slot k
 pub record Grown {A : Type 0} (m m' : ℕ → A) (x : A) (a t n k : ℕ) : Type 0 where

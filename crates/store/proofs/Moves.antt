@@ -6,12 +6,8 @@ use mathlib.Core.Logic.{◌⊎◌, inl, inr}
 use Prim.Native.Nat.{ℕ, zero, suc, ◌+◌, ◌-◌, ◌≤◌, ◌<◌}
 use native.Mathlib.Omega.{arith}
 use native.Mathlib.Decide.{ℕ_discrete}
-use Rattle.store.specs.Moves.{run_of, lift_of, open_of, close_of}
+use Rattle.store.specs.Moves.{move_of, run_of, lift_of, open_of, close_of}
 use Rattle.store.proofs.Items.{Items}
-
--- the item at i goes to j, and e stays
-abbrev pub move_of : {A : Type 0} → (List ℕ → ℕ → A) → (List ℕ → ℕ → A → List ℕ) → A → List ℕ → ℕ → ℕ → List ℕ
-move_of at save e l i j = save (save l j (at l i)) i e
 
 -- position i is outside the n positions from a on
 abbrev pub Outside : ℕ → ℕ → ℕ → Type 0

@@ -4,6 +4,10 @@ use Rattle.node.specs.Nodes.{empty_node}
 use Rattle.store.specs.declared.Cell.{Cell}
 use Rattle.store.specs.Words.{save_cell, empty_cell, save_node, move_cell, move_node}
 
+-- the item at i goes to j, and e stays
+abbrev pub move_of : {A : Type 0} → (List ℕ → ℕ → A) → (List ℕ → ℕ → A → List ℕ) → A → List ℕ → ℕ → ℕ → List ℕ
+move_of at save e l i j = save (save l j (at l i)) i e
+
 -- n items from a to b, upwards
 unfoldable pub run_of : (List ℕ → ℕ → ℕ → List ℕ) → ℕ → List ℕ → ℕ → ℕ → List ℕ
 run_of move zero l a b = l
@@ -23,6 +27,13 @@ open_of move here l a b n k =
 unfoldable pub close_of : (List ℕ → ℕ → ℕ → List ℕ) → Bool → List ℕ → ℕ → ℕ → ℕ → ℕ → List ℕ
 close_of move here l a b n k =
     cond here (run_of move (n - k - 1) l (a + k + 1) (a + k)) (run_of move (n - k - 1) (run_of move k l a b) (a + k + 1) (b + k))
+
+-- a block gets the item x at slot k, loses the item at slot k
+abbrev pub widen_of : {A : Type 0} → (List ℕ → ℕ → A) → (List ℕ → ℕ → A → List ℕ) → A → Bool → List ℕ → ℕ → ℕ → ℕ → ℕ → A → List ℕ
+widen_of at save e here l a b n k x = save (open_of (move_of at save e) here l a b n k) (cond here a b + k) x
+
+abbrev pub narrow_of : {A : Type 0} → (List ℕ → ℕ → A) → (List ℕ → ℕ → A → List ℕ) → A → Bool → List ℕ → ℕ → ℕ → ℕ → ℕ → List ℕ
+narrow_of at save e here l a b n k = close_of (move_of at save e) here (save l (a + k) e) a b n k
 
 -- a block gets a cell at slot k, loses the cell at slot k
 unfoldable pub widen_cells : Bool → List ℕ → ℕ → ℕ → ℕ → ℕ → Cell → List ℕ

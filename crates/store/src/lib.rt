@@ -3,13 +3,45 @@
 // Past the end of a slice a read gives 0 and a write does nothing, so that no position needs a test beforehand.
 #![tactic(auto)]
 
-ghost use Rattle.std.specs.Prelude.{◌≡◌, ◌+◌, ◌-◌, ◌*◌, ◌<◌, ◌≤◌, ◌^◌, cond, length, get_or, set};
-ghost use Rattle.store.specs.Words.{cell_at, save_cell, node_at, save_node, move_cell, move_node};
-ghost use Rattle.store.specs.Moves.{run_of, lift_of, open_of, close_of, widen_cells, narrow_cells, widen_nodes, narrow_nodes};
+ghost use Rattle.std.specs.Prelude.{◌≡◌, ◌+◌, ◌*◌, ◌<◌, ◌≤◌, ◌^◌, ℕ, List, length};
+ghost use Rattle.node.specs.Nodes.{empty_node};
+ghost use Rattle.store.specs.Words.{cell_at, save_cell, empty_cell, node_at, save_node};
+ghost use Rattle.store.specs.Moves.{move_of, run_of, lift_of, open_of, close_of, widen_of, narrow_of};
 
 use node::MultiBitNode;
 use tiers::{CellAt, NodeAt, wide};
 use words::{put, read};
+
+// What stands in a slot of a block. A position counts items, not words.
+pub trait Item: Copy {
+    // The words of an item, the item at a position, a slice after an item is written, and the empty item.
+    ghost words: { ℕ };
+
+    ghost item_at: { List ℕ → ℕ → Self };
+
+    ghost save_item: { List ℕ → ℕ → Self → List ℕ };
+
+    ghost vacant: { Self };
+
+    // The item at a position, of zeros past the end. (The bound is a premise: see edits/src/adding.rt.)
+    fn load(s: &[u32], i: usize) -> Self
+        requires { i < 2 ^ 41 }
+        ensures { result ≡ item_at s.now i };
+
+    // The item at a position within the slice.
+    fn at(s: &[u32], i: usize) -> Self
+        requires { i * words + words ≤ length s.now }
+        ensures { result ≡ item_at s.now i };
+
+    // The item is written at a position.
+    fn save(self, s: &mut [u32], i: usize)
+        requires { i < 2 ^ 41 }
+        ensures { s.new ≡ save_item s.old i self };
+
+    // The empty item, which a vacated position holds.
+    fn vacated() -> Self
+        ensures { result ≡ vacant };
+}
 
 // What a data cell holds.
 #[derive(Clone, Copy)]
@@ -17,251 +49,167 @@ pub struct Cell {
     pub value: u32,
 }
 
-// ---- one item
+impl Item for Cell {
+    ghost words = { 1 };
 
-// The cell at a position, empty past the end.
-pub fn load_cell(s: &[u32], at: usize) -> Cell
-    ensures { result ≡ cell_at s.now at }
-{
-    Cell { value: read(s, at) }
-}
+    ghost item_at = { cell_at };
 
-// The cell at a position within the slice.
-pub fn cell_at(s: &[u32], at: usize) -> Cell
-    requires { at < length s.now }
-    ensures { result ≡ cell_at s.now at }
-{
-    Cell { value: s[at] }
-}
+    ghost save_item = { save_cell };
 
-pub fn save_cell(s: &mut [u32], at: usize, c: Cell)
-    ensures { s.new ≡ save_cell s.old at c }
-{
-    put(s, at, c.value);
-}
+    ghost vacant = { empty_cell };
 
-// The node at a position: its four words, zeros past the end.
-pub fn load_node(s: &[u32], at: usize) -> MultiBitNode
-    requires { at < 2 ^ 41 }
-    ensures { result ≡ node_at s.now at }
-{
-    let i = at * 4;
-    MultiBitNode {
-        data_bitmap: read(s, i),
-        child_bitmap: read(s, i + 1),
-        children_idx: NodeAt(read(s, i + 2)),
-        data_idx: CellAt(read(s, i + 3)),
+    // At any position.
+    #[tactic(auto, unfolding(crate::specs::Words::cell_at))]
+    fn load(s: &[u32], i: usize) -> Cell
+        ensures { result ≡ cell_at s.now i }
+    {
+        Cell { value: read(s, i) }
+    }
+
+    #[tactic(auto, unfolding(crate::specs::Words::cell_at))]
+    fn at(s: &[u32], i: usize) -> Cell
+        requires { i < length s.now }
+        ensures { result ≡ cell_at s.now i }
+    {
+        Cell { value: s[i] }
+    }
+
+    // At any position.
+    #[tactic(auto, unfolding(crate::specs::Words::save_cell))]
+    fn save(self, s: &mut [u32], i: usize)
+        ensures { s.new ≡ save_cell s.old i self }
+    {
+        put(s, i, self.value);
+    }
+
+    fn vacated() -> Cell {
+        Cell { value: 0 }
     }
 }
 
-// The node at a position within the slice.
-pub fn node_at(s: &[u32], at: usize) -> MultiBitNode
-    requires { at * 4 + 4 ≤ length s.now }
-    ensures { result ≡ node_at s.now at }
-{
-    let i = at * 4;
-    MultiBitNode {
-        data_bitmap: s[i],
-        child_bitmap: s[i + 1],
-        children_idx: NodeAt(s[i + 2]),
-        data_idx: CellAt(s[i + 3]),
+impl Item for MultiBitNode {
+    ghost words = { 4 };
+
+    ghost item_at = { node_at };
+
+    ghost save_item = { save_node };
+
+    ghost vacant = { empty_node };
+
+    #[tactic(auto, unfolding(crate::specs::Words::node_at))]
+    fn load(s: &[u32], i: usize) -> MultiBitNode {
+        let w = i * 4;
+        MultiBitNode {
+            data_bitmap: read(s, w),
+            child_bitmap: read(s, w + 1),
+            children_idx: NodeAt(read(s, w + 2)),
+            data_idx: CellAt(read(s, w + 3)),
+        }
+    }
+
+    #[tactic(auto, unfolding(crate::specs::Words::node_at))]
+    fn at(s: &[u32], i: usize) -> MultiBitNode {
+        let w = i * 4;
+        MultiBitNode {
+            data_bitmap: s[w],
+            child_bitmap: s[w + 1],
+            children_idx: NodeAt(s[w + 2]),
+            data_idx: CellAt(s[w + 3]),
+        }
+    }
+
+    #[tactic(auto, unfolding(crate::specs::Words::save_node))]
+    fn save(self, s: &mut [u32], i: usize) {
+        let w = i * 4;
+        put(s, w, self.data_bitmap);
+        put(s, w + 1, self.child_bitmap);
+        put(s, w + 2, self.children_idx.0);
+        put(s, w + 3, self.data_idx.0);
+    }
+
+    fn vacated() -> MultiBitNode {
+        MultiBitNode::empty()
     }
 }
 
-pub fn save_node(s: &mut [u32], at: usize, n: MultiBitNode)
-    requires { at < 2 ^ 41 }
-    ensures { s.new ≡ save_node s.old at n }
-{
-    let i = at * 4;
-    put(s, i, n.data_bitmap);
-    put(s, i + 1, n.child_bitmap);
-    put(s, i + 2, n.children_idx.0);
-    put(s, i + 3, n.data_idx.0);
-}
-
-// ---- helpers of the moves
-
-// What is left of n items behind the first k: none where k is more.
-fn left(n: u32, k: u32) -> u32
-    ensures { result ≡ n - k }
-{
-    if k < n { n - k } else { 0 }
-}
-
-// Where a block stands after it has grown or shrunk: at the old start, or at the new one.
-fn start_of(here: bool, old: u32, new: u32) -> u32
-    ensures { result ≡ cond here old new }
-{
-    if here { old } else { new }
-}
-
-// ---- cells
-
-// One cell goes to another place, and an empty one stays.
-fn move_cell(s: &mut [u32], from: usize, to: usize)
-    ensures { s.new ≡ move_cell s.old from to }
-{
-    let c = load_cell(&s[..], from);
-    save_cell(s, to, c);
-    save_cell(s, from, Cell { value: 0 });
-}
-
-// n cells go from a to b, the first one first.
-fn run_cells(s: &mut [u32], a: usize, b: usize, n: usize)
-    requires { (a < 2 ^ 40) × (b < 2 ^ 40) × (n < 2 ^ 40) }
-    ensures { s.new ≡ run_of move_cell n s.old a b }
-{
-    let mut i = 0;
-    while i < n {
-        move_cell(s, a + i, b + i);
-        i += 1;
-    }
-}
-
-// n cells from a on go up by one place, the last one first.
-fn lift_cells(s: &mut [u32], a: usize, n: usize)
-    requires { (a < 2 ^ 40) × (n < 2 ^ 40) }
-    ensures { s.new ≡ lift_of move_cell n s.old a }
-{
-    let mut i = n;
-    while 0 < i {
-        i -= 1;
-        move_cell(s, a + i, a + i + 1);
-    }
-}
-
-// Room for one more cell at a slot: in place, or in the new block.
-fn open_cells(s: &mut [u32], here: bool, old: u32, new: u32, count: u32, slot: u32)
-    ensures { s.new ≡ open_of move_cell here s.old old new count slot }
-{
-    let a = wide(old);
-    let b = wide(new);
-    let k = wide(slot);
-    let n = wide(left(count, slot));
-    if here {
-        lift_cells(s, a + k, n);
-    } else {
-        run_cells(s, a, b, k);
-        run_cells(s, a + k, b + k + 1, n);
-    }
-}
-
-// The gap at a slot is closed: in place, or in the new block.
-fn close_cells(s: &mut [u32], here: bool, old: u32, new: u32, count: u32, slot: u32)
-    ensures { s.new ≡ close_of move_cell here s.old old new count slot }
-{
-    let a = wide(old);
-    let b = wide(new);
-    let k = wide(slot);
-    let n = wide(left(left(count, slot), 1));
-    if here {
-        run_cells(s, a + k + 1, a + k, n);
-    } else {
-        run_cells(s, a, b, k);
-        run_cells(s, a + k + 1, b + k, n);
-    }
-}
-
-// A block of cells gets one more, at a slot.
-pub fn widen_cells(s: &mut [u32], here: bool, old: u32, new: u32, count: u32, slot: u32, c: Cell)
-    ensures { s.new ≡ widen_cells here s.old old new count slot c }
-{
-    open_cells(s, here, old, new, count, slot);
-    save_cell(s, wide(start_of(here, old, new)) + wide(slot), c);
-}
-
-// A block of cells loses the one at a slot.
-pub fn narrow_cells(s: &mut [u32], here: bool, old: u32, new: u32, count: u32, slot: u32)
-    ensures { s.new ≡ narrow_cells here s.old old new count slot }
-{
-    save_cell(s, wide(old) + wide(slot), Cell { value: 0 });
-    close_cells(s, here, old, new, count, slot);
-}
-
-// ---- nodes
-
-// One node goes to another place, and an empty one stays.
-fn move_node(s: &mut [u32], from: usize, to: usize)
+// One item goes to another place, and an empty one stays.
+fn move_item<T: Item>(s: &mut [u32], from: usize, to: usize)
     requires { (from < 2 ^ 41) × (to < 2 ^ 41) }
-    ensures { s.new ≡ move_node s.old from to }
+    ensures { s.new ≡ move_of T.item_at T.save_item T.vacant s.old from to }
 {
-    let n = load_node(&s[..], from);
-    save_node(s, to, n);
-    save_node(s, from, MultiBitNode::empty());
+    T::load(s, from).save(s, to);
+    T::vacated().save(s, from);
 }
 
-// n nodes go from a to b, the first one first.
-fn run_nodes(s: &mut [u32], a: usize, b: usize, n: usize)
+// n items go from a to b, the first one first.
+#[tactic(auto, unfolding(crate::specs::Moves::run_of))]
+fn run<T: Item>(s: &mut [u32], a: usize, b: usize, n: usize)
     requires { (a < 2 ^ 40) × (b < 2 ^ 40) × (n < 2 ^ 40) }
-    ensures { s.new ≡ run_of move_node n s.old a b }
+    ensures { s.new ≡ run_of (move_of T.item_at T.save_item T.vacant) n s.old a b }
 {
-    let mut i = 0;
-    while i < n {
-        move_node(s, a + i, b + i);
-        i += 1;
+    for i in 0..n {
+        move_item::<T>(s, a + i, b + i);
     }
 }
 
-// n nodes from a on go up by one place, the last one first.
-fn lift_nodes(s: &mut [u32], a: usize, n: usize)
+// n items from a on go up by one place, the last one first.
+#[tactic(auto, unfolding(crate::specs::Moves::lift_of))]
+fn lift<T: Item>(s: &mut [u32], a: usize, n: usize)
     requires { (a < 2 ^ 40) × (n < 2 ^ 40) }
-    ensures { s.new ≡ lift_of move_node n s.old a }
+    ensures { s.new ≡ lift_of (move_of T.item_at T.save_item T.vacant) n s.old a }
 {
-    let mut i = n;
-    while 0 < i {
-        i -= 1;
-        move_node(s, a + i, a + i + 1);
+    for i in (0..n).rev() {
+        move_item::<T>(s, a + i, a + i + 1);
     }
 }
 
-// Room for one more node at a slot: in place, or in the new block.
-fn open_nodes(s: &mut [u32], here: bool, old: u32, new: u32, count: u32, slot: u32)
-    ensures { s.new ≡ open_of move_node here s.old old new count slot }
+// Room for one more item at a slot: in place, or in the new block.
+#[tactic(auto, unfolding(crate::specs::Moves::open_of))]
+fn open<T: Item>(s: &mut [u32], here: bool, old: u32, new: u32, count: u32, slot: u32)
+    ensures { s.new ≡ open_of (move_of T.item_at T.save_item T.vacant) here s.old old new count slot }
 {
     let a = wide(old);
     let b = wide(new);
     let k = wide(slot);
-    let n = wide(left(count, slot));
+    let n = wide(count.saturating_sub(slot));
     if here {
-        lift_nodes(s, a + k, n);
+        lift::<T>(s, a + k, n);
     } else {
-        run_nodes(s, a, b, k);
-        run_nodes(s, a + k, b + k + 1, n);
+        run::<T>(s, a, b, k);
+        run::<T>(s, a + k, b + k + 1, n);
     }
 }
 
 // The gap at a slot is closed: in place, or in the new block.
-fn close_nodes(s: &mut [u32], here: bool, old: u32, new: u32, count: u32, slot: u32)
-    ensures { s.new ≡ close_of move_node here s.old old new count slot }
+#[tactic(auto, unfolding(crate::specs::Moves::close_of))]
+fn close<T: Item>(s: &mut [u32], here: bool, old: u32, new: u32, count: u32, slot: u32)
+    ensures { s.new ≡ close_of (move_of T.item_at T.save_item T.vacant) here s.old old new count slot }
 {
     let a = wide(old);
     let b = wide(new);
     let k = wide(slot);
-    let n = wide(left(left(count, slot), 1));
+    let n = wide(count.saturating_sub(slot).saturating_sub(1));
     if here {
-        run_nodes(s, a + k + 1, a + k, n);
+        run::<T>(s, a + k + 1, a + k, n);
     } else {
-        run_nodes(s, a, b, k);
-        run_nodes(s, a + k + 1, b + k, n);
+        run::<T>(s, a, b, k);
+        run::<T>(s, a + k + 1, b + k, n);
     }
 }
 
-// A block of nodes gets one more at a slot, an empty one.
-pub fn widen_nodes(s: &mut [u32], here: bool, old: u32, new: u32, count: u32, slot: u32)
-    ensures { s.new ≡ widen_nodes here s.old old new count slot }
+// A block of items gets one more, at a slot.
+pub fn widen<T: Item>(s: &mut [u32], here: bool, old: u32, new: u32, count: u32, slot: u32, item: T)
+    ensures { s.new ≡ widen_of T.item_at T.save_item T.vacant here s.old old new count slot item }
 {
-    open_nodes(s, here, old, new, count, slot);
-    save_node(
-        s,
-        wide(start_of(here, old, new)) + wide(slot),
-        MultiBitNode::empty(),
-    );
+    open::<T>(s, here, old, new, count, slot);
+    let start = if here { old } else { new };
+    item.save(s, wide(start) + wide(slot));
 }
 
-// A block of nodes loses the one at a slot.
-pub fn narrow_nodes(s: &mut [u32], here: bool, old: u32, new: u32, count: u32, slot: u32)
-    ensures { s.new ≡ narrow_nodes here s.old old new count slot }
+// A block of items loses the one at a slot.
+pub fn narrow<T: Item>(s: &mut [u32], here: bool, old: u32, new: u32, count: u32, slot: u32)
+    ensures { s.new ≡ narrow_of T.item_at T.save_item T.vacant here s.old old new count slot }
 {
-    save_node(s, wide(old) + wide(slot), MultiBitNode::empty());
-    close_nodes(s, here, old, new, count, slot);
+    T::vacated().save(s, wide(old) + wide(slot));
+    close::<T>(s, here, old, new, count, slot);
 }

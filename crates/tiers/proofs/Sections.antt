@@ -91,13 +91,13 @@ start_lt kind size t h k =
     let m : t * size ≤ 7 * size = mul-le-mul_right size h in
     omega (arith, start_le kind size t)
 
--- and so has a free list of either kind
-pub list_lt : (kind : List ℕ) (size : ℕ) → length kind ≤ 7 → size < 2 ^ 32 → free_list_length kind size < 2 ^ 35
-list_lt kind size h k = start_lt kind size (length kind) h k
-
 -- a number that is where a section begins in one kind is so in every kind
-pub every_start : (r size t : ℕ) → t < 7 → size < 2 ^ 32 → r ≡ section_start child_spacings size t → (r < 2 ^ 35) × ((top : ℕ) → r ≡ section_start (spacings top) size t)
-every_start r size t h k e = (omega (arith, start_lt child_spacings size t (omega arith) k), λ top. e ∙ same_start 32 top size t h)
+pub every_start :
+    (r size t u : ℕ) → t ≡ u → size < 2 ^ 32 → t < 7 → r ≡ section_start child_spacings size u
+    → (r < 2 ^ 35) × ((top : ℕ) → r ≡ section_start (spacings top) size t)
+every_start r size t u q k h e =
+    let f : r ≡ section_start child_spacings size t = rw q e in
+    (omega (arith, start_lt child_spacings size t (omega arith) k), λ top. f ∙ same_start 32 top size t h)
 
 -- seven sections, none with more blocks than fit the pool
 seven : (s a b c d e f g : ℕ) → a * 1 ≤ s → b * 2 ≤ s → c * 4 ≤ s → d * 8 ≤ s → e * 16 ≤ s → f * 24 ≤ s → g * 31 ≤ s → 64 * (0 + a + b + c + d + e + f + g) ≤ 129 * s

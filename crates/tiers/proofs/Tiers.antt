@@ -8,7 +8,7 @@ use native.Mathlib.Nat.{le_refl, le_trans, lt_of_le_of_lt, lt_trans, le_of_suc-l
 use native.Mathlib.Decide.{dec_lt}
 use native.Mathlib.Omega.{arith}
 use borrow.Author.Tests.{le-leb, lt-leb}
-use lib.Dec.{T, leb, ltb, leb→le, ltb→lt, lit<, lit≤}
+use lib.Dec.{T, leb, ltb, ltb→lt, lit<, lit≤}
 use lib.Ieee.Fits.{and_l, and_r}
 use lib.ListN.{length, get_or, get_or-append}
 use Rattle.tiers.specs.Tiers.{spacings, data_spacings, child_spacings, spacing_of, tier_of, Smallest}
@@ -30,11 +30,6 @@ same_spacing a b t h =
     let common : List ℕ = 1 ∷ 2 ∷ 4 ∷ 8 ∷ 16 ∷ 24 ∷ [] in
     get_or-append common (a ∷ []) 1 t h ∙ sym (get_or-append common (b ∷ []) 1 t h)
 
--- the last tier's spacing is the kind's own
-pub last_spacing : (top : ℕ) → spacing_of (spacings top) 6 ≡ top
-unfolding spacing_of
-last_spacing top = refl
-
 -- a kind whose last spacing isn't 0 has none that is
 pub kind_pos : (top t : ℕ) → 0 < top → 1 ≤ spacing_of (spacings top) t
 unfolding spacing_of
@@ -54,6 +49,10 @@ spacing_entry [] t d h = absurd (not-suc-le-zero h)
 spacing_entry (s ∷ kind) zero d h = refl
 spacing_entry (s ∷ kind) (suc t) d h = spacing_entry kind t d (le_of_suc-le-suc h)
 
+-- so a table that is the list has it
+pub table_entry : (table kind : List ℕ) (i t d : ℕ) → table ≡ kind → i ≡ t → i < length kind → get_or table i d ≡ spacing_of kind t
+table_entry table kind i t d e f h = rw (e, ← f) (spacing_entry kind i d h)
+
 -- the spacings of a rising list are above what it rises from
 above : (a : ℕ) (kind : List ℕ) → T (rising a kind) → (t : ℕ) → t < length kind → a < get_or kind t 1
 above a [] r t h = absurd (not-suc-le-zero h)
@@ -70,13 +69,6 @@ spacing_pos kind r t = go 0 kind r t
     go a [] r t = le_refl 1
     go a (s ∷ ss) r zero = lt_of_le_of_lt zero-le (ltb→lt a s (and_l (ltb a s) (rising s ss) r))
     go a (s ∷ ss) r (suc t) = go s ss (and_r (ltb a s) (rising s ss) r) t
-
--- a spacing is at most the bound of its list
-pub spacing_le : (b : ℕ) (kind : List ℕ) → T (within b kind) → (t : ℕ) → spacing_of kind t ≤ b
-unfolding spacing_of
-spacing_le b [] w t = leb→le 1 b w
-spacing_le b (s ∷ kind) w zero = leb→le s b (and_l (leb s b) (within b kind) w)
-spacing_le b (s ∷ kind) w (suc t) = spacing_le b kind (and_r (leb s b) (within b kind) w) t
 
 -- a higher tier has a larger spacing
 pub spacing_rises : (kind : List ℕ) → T (rising 0 kind) → (u t : ℕ) → u < t → t < length kind → spacing_of kind u < spacing_of kind t
@@ -125,10 +117,6 @@ tier_last (s ∷ (u ∷ kind)) n = go (dec_lt s n) (tier_last (u ∷ kind) n)
 -- so it is one of the list's
 pub tier_lt : (kind : List ℕ) (n : ℕ) → 0 < length kind → tier_of kind n < length kind
 tier_lt kind n h = omega (arith, tier_last kind n)
-
--- a number that is a count's tier in one kind is one in every kind
-pub every_tier : (r n : ℕ) → r ≡ tier_of child_spacings n → (r < 7) × ((top : ℕ) → r ≡ tier_of (spacings top) n)
-every_tier r n e = (omega (arith, tier_lt child_spacings n (lit< tt)), λ top. e ∙ same_tier 32 top n)
 
 -- a count that a tier's spacing holds has no higher tier
 pub tier_le : (kind : List ℕ) (t n : ℕ) → n ≤ spacing_of kind t → tier_of kind n ≤ t
@@ -216,6 +204,18 @@ smallest_unique kind n a b v w = le_antisymm (go a b v w (dec_lt b a)) (go b a w
 -- so the smallest tier is the count's
 pub smallest_tier : (kind : List ℕ) → T (rising 0 kind) → (n t : ℕ) → Smallest kind n t → tier_of kind n ≡ t
 smallest_tier kind r n t w = smallest_unique kind n (tier_of kind n) t (tier_smallest kind r n t w.there w.holds) w
+
+-- the first tier that holds a count is the count's in every kind, whatever its last spacing is
+pub first_holds : (n t : ℕ) → t < 6 → n ≤ spacing_of child_spacings t → ((u : ℕ) → u < t → spacing_of child_spacings u < n) → (top : ℕ) → t ≡ tier_of (spacings top) n
+first_holds n t h k l top =
+    sym (smallest_tier child_spacings tt n t (record { there = omega arith; holds = k; least = l })) ∙ same_tier 32 top n
+
+-- and where none below the last does, the last is
+pub none_holds : (n : ℕ) → ((u : ℕ) → u < 6 → spacing_of child_spacings u < n) → (top : ℕ) → 6 ≡ tier_of (spacings top) n
+none_holds n l top =
+    let more : 5 < tier_of child_spacings n = tier_gt child_spacings tt 5 n (lit< tt) (l 5 (lit< tt)) in
+    let e : 6 ≡ tier_of child_spacings n = omega (arith, tier_lt child_spacings n (lit< tt)) in
+    e ∙ same_tier 32 top n
 
 -- a full block has the tier of its spacing
 pub tier_full : (kind : List ℕ) → T (rising 0 kind) → (t : ℕ) → t < length kind → tier_of kind (spacing_of kind t) ≡ t

@@ -3,40 +3,18 @@ use mathlib.Core.Path.{◌≡◌, refl, sym, ◌∙◌}
 use mathlib.Core.Bool.{Bool, true, false, ◌&&◌}
 use Prim.Native.Nat.{ℕ, ◌+◌, ◌<◌, ◌^◌}
 use native.Mathlib.Omega.{arith}
-use borrow.Author.Tests.{eq-eqb, ne_eqb, lt-ltb, leb-true}
+use borrow.Author.Tests.{ne_eqb, leb-true}
 use lib.Dec.{ltb, eqb}
 use Rattle.bits.specs.Bits.{count}
 use Rattle.tiers.specs.Tiers.{empty, child_spacings, spacing_of, tier_of}
 use Rattle.tiers.proofs.Tiers.{spacing_pos}
 use Rattle.places.specs.Places.{child_bit}
 use Rattle.node.specs.declared.MultiBitNode.{MultiBitNode}
-use Rattle.walk.specs.declared.Step.{Step}
-use Rattle.walk.specs.declared.Step.TheVariants.{Down}
+use Rattle.std.specs.Prelude.{Option, Some, Result, Ok}
+use Rattle.refusals.specs.declared.Refusal.{Refusal}
 use Rattle.walk.specs.Steps.{agree, sound_of, data_whole, children_whole, children_within, step_of}
 use Rattle.walk.proofs.Kept.{set_some}
 use Rattle.walk.proofs.Steps.{descent}
-
--- ---- the rules' half; e says whether their index is empty
-module _ (x : MultiBitNode) (e : Bool) (ee : e ≡ eqb x.data_idx.0 empty) where
-  -- no rules: the index is empty
-  pub no_rules : x.data_bitmap ≡ 0 → e ≡ data_whole x
-  unfolding data_whole
-  no_rules z = simp (eq-eqb x.data_bitmap 0 z, lt-ltb x.data_bitmap 0x8000_0000 (omega arith), ← ee) (go e)
-    where
-      go : (b : Bool) → b ≡ (b && true)
-      go true = refl
-      go false = refl
-
-  module _ (h : x.data_bitmap ≡ 0 → ⊥) where
-    -- rules, and no block for them
-    pub rules_nowhere : e ≡ true → false ≡ data_whole x
-    unfolding data_whole
-    rules_nowhere t = simp (ne_eqb x.data_bitmap 0 h, ← ee, t)
-
-    -- rules and a block: bit 31 decides
-    pub rules_kept : e ≡ false → ltb x.data_bitmap 0x8000_0000 ≡ data_whole x
-    unfolding data_whole
-    rules_kept f = simp (ne_eqb x.data_bitmap 0 h, ← ee, f)
 
 -- ---- both halves are the whole test
 pub halves : (x : MultiBitNode) → sound_of x ≡ (data_whole x && children_whole x)
@@ -68,7 +46,7 @@ module _ (x : MultiBitNode) {s : Bool} (es : s ≡ data_whole x) where
 -- ---- what a step says of the halves
 module _ (lim key len d : ℕ) (x : MultiBitNode) where
   -- down: there is a child, and no block below the mark starts at the empty index
-  children_hold : lim < 2 ^ 32 → (at : ℕ) → step_of lim key len d x ≡ Down at → children_whole x ≡ true
+  children_hold : lim < 2 ^ 32 → (at : ℕ) → step_of lim key len d x ≡ Ok (Some at) → children_whole x ≡ true
   unfolding children_whole children_within
   children_hold h at e =
       let g = descent lim key len d x at e in
@@ -79,7 +57,8 @@ module _ (lim key len d : ℕ) (x : MultiBitNode) where
       simp (ne_eqb x.child_bitmap 0 (set_some x.child_bitmap (child_bit d key) g.child), ne_eqb start empty (λ z. omega arith))
 
   -- so a node whose rules' half holds is whole where the walk goes down from it
-  pub down_whole : lim < 2 ^ 32 → {s : Bool} → s ≡ data_whole x → s ≡ true → {t : Step} → t ≡ step_of lim key len d x → (at : ℕ) → t ≡ Down at → sound_of x ≡ true
+  pub down_whole : lim < 2 ^ 32 → {s : Bool} → s ≡ data_whole x → s ≡ true
+      → {t : Result (Option ℕ) Refusal} → t ≡ step_of lim key len d x → (at : ℕ) → t ≡ Ok (Some at) → sound_of x ≡ true
   down_whole h es holds et at e = both_hold x es holds (children_hold h at (sym et ∙ e))
 
 -- a claim that holds of a node that is whole, and of one that isn't

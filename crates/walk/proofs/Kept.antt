@@ -9,8 +9,7 @@ use Rattle.bits.proofs.BitByBit.{bit_above}
 use Rattle.tiers.specs.Tiers.{stride}
 use Rattle.places.specs.Places.{data_bit, depth_of, length_at}
 use Rattle.places.proofs.Prefixes.{data_lt, data_length}
-use Rattle.node.specs.declared.Found.{Found}
-use Rattle.node.specs.declared.Found.TheVariants.{At, Nothing}
+use Rattle.std.specs.Prelude.{Option, Some, None}
 use Rattle.node.specs.Matches.{longest_in, shortest_in}
 use Rattle.node.proofs.Matches.{Held, Best, Matches, longest_is, shortest_is}
 
@@ -35,17 +34,17 @@ set_some bitmap b e z =
     omega arith
 
 -- so a match in an empty node finds nothing
-match_zero : (R : ℕ → ℕ → Type 0) (P : ℕ → Type 0) (key : ℕ) (f : Found) → Matches R P 0 key f → f ≡ Nothing
-match_zero R P key (At b) m = absurd (set_some 0 b m.set refl)
-match_zero R P key Nothing m = refl
+match_zero : (R : ℕ → ℕ → Type 0) (P : ℕ → Type 0) (key : ℕ) (f : Option ℕ) → Matches R P 0 key f → f ≡ None
+match_zero R P key (Some b) m = absurd (set_some 0 b m.set refl)
+match_zero R P key None m = refl
 
 module _ (d key len : ℕ) (from : d ≤ len) where
   -- the longest
-  pub longest_zero : longest_in 0 d key len ≡ Nothing
+  pub longest_zero : longest_in 0 d key len ≡ None
   longest_zero = match_zero (λ l s. l ≤ s) (Held d len) key (longest_in 0 d key len) (longest_is 0 d key len from)
 
   -- the shortest
-  pub shortest_zero : shortest_in 0 d key len ≡ Nothing
+  pub shortest_zero : shortest_in 0 d key len ≡ None
   shortest_zero = match_zero (λ l s. s ≤ l) (Held d len) key (shortest_in 0 d key len) (shortest_is 0 d key len from)
 
 module _ (bitmap d key len : ℕ) (stands : d % stride ≡ 0) (from : d ≤ len) where
@@ -60,13 +59,13 @@ module _ (bitmap d key len : ℕ) (stands : d % stride ≡ 0) (from : d ≤ len)
       record { set = t.set; bit = subst (λ (x : ℕ). x < 31) (sym t.there) (data_lt key t.size); there = t.there ∙ ap (data_bit key) (sym k); from = omega (arith, k, h.from); upto = omega (arith, k, h.within) }
 
   -- and so is what a match finds
-  match_kept : (R : ℕ → ℕ → Type 0) (b : ℕ) (f : Found) → Matches R (Held d len) bitmap key f → f ≡ At b → Kept bitmap d key len b
+  match_kept : (R : ℕ → ℕ → Type 0) (b : ℕ) (f : Option ℕ) → Matches R (Held d len) bitmap key f → f ≡ Some b → Kept bitmap d key len b
   match_kept R b f m e = best_kept R b (rw e at m)
 
   -- the longest match
-  pub longest_kept : (b : ℕ) → longest_in bitmap d key len ≡ At b → Kept bitmap d key len b
+  pub longest_kept : (b : ℕ) → longest_in bitmap d key len ≡ Some b → Kept bitmap d key len b
   longest_kept b e = match_kept (λ l s. l ≤ s) b (longest_in bitmap d key len) (longest_is bitmap d key len from) e
 
   -- the shortest match
-  pub shortest_kept : (b : ℕ) → shortest_in bitmap d key len ≡ At b → Kept bitmap d key len b
+  pub shortest_kept : (b : ℕ) → shortest_in bitmap d key len ≡ Some b → Kept bitmap d key len b
   shortest_kept b e = match_kept (λ l s. s ≤ l) b (shortest_in bitmap d key len) (shortest_is bitmap d key len from) e

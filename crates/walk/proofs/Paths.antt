@@ -1,4 +1,4 @@
--- What a sound trail says: the path from the root, node by node, each with its position. Assumes nothing.
+-- What a trail says: the path from the root, node by node, each with its position. Assumes nothing.
 use mathlib.Core.Path.{◌≡◌, refl, sym, ap, ◌∙◌}
 use mathlib.Core.Bool.{Bool, true, false, cond}
 use mathlib.Core.List.{List}
@@ -14,8 +14,9 @@ use Rattle.tiers.specs.Tiers.{stride}
 use Rattle.node.specs.declared.MultiBitNode.{MultiBitNode}
 use Rattle.node.specs.Nodes.{empty_node}
 use Rattle.store.specs.Words.{node_at}
-use Rattle.walk.specs.declared.Step.{Step}
-use Rattle.walk.specs.declared.Step.TheVariants.{Down, End, Broken}
+use Rattle.std.specs.Prelude.{Option, Some, None, Result, Ok, Err, IfOk}
+use Rattle.refusals.specs.declared.Refusal.{Refusal}
+use Rattle.refusals.specs.declared.Refusal.TheVariants.{Broken}
 use Rattle.walk.specs.declared.Trail.{Trail}
 use Rattle.walk.specs.Steps.{sound_of, step_of}
 use Rattle.walk.specs.Trails.{trail_as, trail_step, trail_from, no_places, no_nodes, trail_of}
@@ -32,15 +33,15 @@ pub record Path (l : List ℕ) (lim key len k : ℕ) (p : List ℕ) (n : List Mu
   pub below : (i : ℕ) → i ≤ k → get_or p i 0 < lim
   pub node : (i : ℕ) → i ≤ k → get_or n i empty_node ≡ node_at l (get_or p i 0)
   pub whole : (i : ℕ) → i < k → sound_of (get_or n i empty_node) ≡ true
-  pub down : (i : ℕ) → i < k → step_of lim key len (stride * i) (get_or n i empty_node) ≡ Down (get_or p (suc i) 0)
+  pub down : (i : ℕ) → i < k → step_of lim key len (stride * i) (get_or n i empty_node) ≡ Ok (Some (get_or p (suc i) 0))
 
--- a sound trail: a path to its depth, whose last node is whole and ends it
+-- a trail: a path to its depth, whose last node is whole and ends it
 pub record Trailed (l : List ℕ) (lim key len : ℕ) (t : Trail) : Type 0 where
   pub stands : t.depth % stride ≡ 0
   pub from : t.depth ≤ len
   pub path : Path l lim key len (t.depth / stride) t.places t.nodes
   pub last_whole : sound_of (get_or t.nodes (t.depth / stride) empty_node) ≡ true
-  pub last : step_of lim key len t.depth (get_or t.nodes (t.depth / stride) empty_node) ≡ End
+  pub last : step_of lim key len t.depth (get_or t.nodes (t.depth / stride) empty_node) ≡ Ok None
 
 module _ (l : List ℕ) (lim key len : ℕ) where
   -- a path of the root alone
@@ -66,7 +67,7 @@ module _ (l : List ℕ) (lim key len : ℕ) where
 
   -- one level more
   module _ (k next : ℕ) (p : List ℕ) (n : List MultiBitNode) (w : Path l lim key len k p n) (room : suc k < 7)
-      (s : sound_of (get_or n k empty_node) ≡ true) (e : step_of lim key len (stride * k) (get_or n k empty_node) ≡ Down next) (b : next < lim)
+      (s : sound_of (get_or n k empty_node) ≡ true) (e : step_of lim key len (stride * k) (get_or n k empty_node) ≡ Ok (Some next)) (b : next < lim)
     where
       -- the lists with the next level
       p₁ : List ℕ
@@ -119,33 +120,34 @@ module _ (l : List ℕ) (lim key len : ℕ) where
           whole i h (yes g) = ap sound_of (old_node i (omega arith)) ∙ w.whole i g
           whole i h (no g) = let z : i ≡ k = omega arith in ap sound_of (old_node i (omega arith)) ∙ ap (λ (j : ℕ). sound_of (get_or n j empty_node)) z ∙ s
 
-          down : (i : ℕ) → i < suc k → Dec (i < k) → step_of lim key len (stride * i) (get_or n₁ i empty_node) ≡ Down (get_or p₁ (suc i) 0)
+          down : (i : ℕ) → i < suc k → Dec (i < k) → step_of lim key len (stride * i) (get_or n₁ i empty_node) ≡ Ok (Some (get_or p₁ (suc i) 0))
           down i h (yes g) =
-              ap (step_of lim key len (stride * i)) (old_node i (omega arith)) ∙ w.down i g ∙ ap (λ (a : ℕ). Down a) (sym (old_place (suc i) (omega arith)))
+              ap (step_of lim key len (stride * i)) (old_node i (omega arith)) ∙ w.down i g ∙ ap (λ (a : ℕ). Ok (Some a)) (sym (old_place (suc i) (omega arith)))
           down i h (no g) =
               let z : i ≡ k = omega arith in
               ap (step_of lim key len (stride * i)) (old_node i (omega arith)) ∙ ap (λ (j : ℕ). step_of lim key len (stride * j) (get_or n j empty_node)) z
-              ∙ e ∙ ap (λ (a : ℕ). Down a) (sym new_place) ∙ ap (λ (j : ℕ). Down (get_or p₁ (suc j) 0)) (sym z)
+              ∙ e ∙ ap (λ (a : ℕ). Ok (Some a)) (sym new_place) ∙ ap (λ (j : ℕ). Ok (Some (get_or p₁ (suc j) 0))) (sym z)
 
   -- one turn of the walk
-  turned : (s : Bool) (t : Step) (d : ℕ) (p : List ℕ) (n : List MultiBitNode) (on : ℕ → Trail) → (s ≡ true → t ≡ End → Trailed l lim key len (trail_as true d p n))
-      → ((next : ℕ) → s ≡ true → t ≡ Down next → (on next).sound ≡ true → Trailed l lim key len (on next))
-      → (cond s (trail_step t d p n on) (trail_as false d p n)).sound ≡ true → Trailed l lim key len (cond s (trail_step t d p n on) (trail_as false d p n))
+  turned : (s : Bool) (t : Result (Option ℕ) Refusal) (d : ℕ) (p : List ℕ) (n : List MultiBitNode) (on : ℕ → Result Trail Refusal)
+      → (s ≡ true → t ≡ Ok None → Trailed l lim key len (trail_as d p n))
+      → ((next : ℕ) → s ≡ true → t ≡ Ok (Some next) → IfOk (on next) (Trailed l lim key len))
+      → IfOk (cond s (trail_step t d p n on) (Err Broken)) (Trailed l lim key len)
   unfolding trail_step
-  turned true (Down at) d p n on a b h = b at refl refl h
-  turned true End d p n on a b h = a refl refl
-  turned true Broken d p n on a b h = let z : ◌≡◌ {A = ℕ} 0 1 = cc in absurd (omega arith)
-  turned false t d p n on a b h = let z : ◌≡◌ {A = ℕ} 0 1 = cc in absurd (omega arith)
+  turned true (Ok (Some at)) d p n on a b = b at refl refl
+  turned true (Ok None) d p n on a b = a refl refl
+  turned true (Err r) d p n on a b = tt
+  turned false t d p n on a b = tt
 
   module _ (short : len ≤ width) where
     -- what a turn needs of the lists so far, and what a walk from there gives
     abbrev On : ℕ → ℕ → ℕ → Type 0
     On f at d =
         (p : List ℕ) (n : List MultiBitNode) → Path l lim key len (d / stride) (set p (d / stride) at) (set n (d / stride) (node_at l at))
-        → (trail_from f l lim key len at d p n).sound ≡ true → Trailed l lim key len (trail_from f l lim key len at d p n)
+        → IfOk (trail_from f l lim key len at d p n) (Trailed l lim key len)
 
     -- a turn
-    turn : (f at d : ℕ) → Standing lim len at d → ((next : ℕ) → step_of lim key len d (node_at l at) ≡ Down next → On f next (d + stride)) → On (suc f) at d
+    turn : (f at d : ℕ) → Standing lim len at d → ((next : ℕ) → step_of lim key len d (node_at l at) ≡ Ok (Some next) → On f next (d + stride)) → On (suc f) at d
     unfolding trail_from p₁ n₁
     turn f at d w h p n v =
         turned (sound_of x) (step_of lim key len d x) d (set p k at) (set n k x) (λ next. trail_from f l lim key len next (d + stride) (set p k at) (set n k x))
@@ -171,18 +173,20 @@ module _ (l : List ℕ) (lim key len : ℕ) where
             let y = w.tree.from in
             get_or-set_same n (d / stride) (node_at l at) empty_node (omega arith)
 
-    -- a sound trail is a path from the root
-    pub trailed : (trail_of l lim key len).sound ≡ true → Trailed l lim key len (trail_of l lim key len)
+    -- a trail is a path from the root
+    pub trailed : (t : Trail) → trail_of l lim key len ≡ Ok t → Trailed l lim key len t
     unfolding trail_of
-    trailed h = go (ltb 0 lim) refl h
+    trailed t e = ok (cond (ltb 0 lim) (trail_from 7 l lim key len 0 0 no_places no_nodes) (Err Broken)) e (go (ltb 0 lim) refl)
       where
-        go : (t : Bool) → ltb 0 lim ≡ t → (cond t (trail_from 7 l lim key len 0 0 no_places no_nodes) (trail_as false 0 no_places no_nodes)).sound ≡ true
-            → Trailed l lim key len (cond t (trail_from 7 l lim key len 0 0 no_places no_nodes) (trail_as false 0 no_places no_nodes))
-        go true p e =
-            let g = ltb-true 0 lim p in
-            along l lim key len On turn 7 0 0 (at_root lim len short (λ z. omega arith)) (omega arith) no_places no_nodes (root_path g) e
-        go false p e = let z : ◌≡◌ {A = ℕ} 0 1 = cc in absurd (omega arith)
+        ok : (r : Result Trail Refusal) → r ≡ Ok t → IfOk r (Trailed l lim key len) → Trailed l lim key len t
+        ok r q w = rw q at w
 
--- the last node of a sound trail stands at depth 30 or above
+        go : (b : Bool) → ltb 0 lim ≡ b → IfOk (cond b (trail_from 7 l lim key len 0 0 no_places no_nodes) (Err Broken)) (Trailed l lim key len)
+        go true p =
+            let h = ltb-true 0 lim p in
+            along l lim key len On turn 7 0 0 (at_root lim len short (λ z. omega arith)) (omega arith) no_places no_nodes (root_path h)
+        go false p = tt
+
+-- the last node of a trail stands at depth 30 or above
 pub trailed_depth : (l : List ℕ) (lim key len : ℕ) (t : Trail) → len ≤ width → Trailed l lim key len t → t.depth ≤ 30
 trailed_depth l lim key len t h w = let a = w.stands in let b = w.from in omega arith

@@ -11,23 +11,6 @@ use Rattle.tiers.specs.Tiers.{empty}
 use Rattle.node.specs.declared.MultiBitNode.{MultiBitNode}
 use Rattle.walk.specs.Steps.{agree, sound_of}
 
-module _ (x : MultiBitNode) (a e : Bool) (ee : e ≡ eqb x.data_idx.0 empty) (ea : a ≡ agree (eqb x.data_bitmap 0) e) where
-  -- the data bitmap and its index don't agree
-  pub sound_data : a ≡ false → sound_of x ≡ false
-  unfolding sound_of
-  sound_data h = simp (← ee, ← ea, h)
-
-  module _ (t : a ≡ true) (b f : Bool) (ef : f ≡ eqb x.children_idx.0 empty) (eb : b ≡ agree (eqb x.child_bitmap 0) f) where
-    -- the child bitmap and its index don't
-    pub sound_children : b ≡ false → sound_of x ≡ false
-    unfolding sound_of
-    sound_children h = simp (← ee, ← ea, t, ← ef, ← eb, h)
-
-    -- both do: bit 31 decides
-    pub sound_both : b ≡ true → sound_of x ≡ ltb x.data_bitmap 0x8000_0000
-    unfolding sound_of
-    sound_both h = simp (← ee, ← ea, t, ← ef, ← eb, h)
-
 -- a node that is whole has no data bit 31
 pub sound_31 : (x : MultiBitNode) → sound_of x ≡ true → x.data_bitmap < 2 ^ 31
 unfolding sound_of

@@ -1,27 +1,34 @@
--- A block below the mark, over any list of spacings: the quick answer, the exact one, and where the block's items stand. Assumes nothing.
-use mathlib.Core.Path.{◌≡◌}
+-- A block below the mark, over any list of spacings: the quick answer, and where the block's items stand. Assumes nothing.
+use mathlib.Core.Path.{◌≡◌, sym}
 use mathlib.Core.Bool.{true}
 use mathlib.Core.List.{List}
-use Prim.Native.Nat.{ℕ, ◌+◌, ◌≤◌, ◌<◌}
+use Prim.Native.Nat.{ℕ, zero, suc, ◌+◌, ◌≤◌, ◌<◌}
 use native.Mathlib.Omega.{arith}
 use borrow.Author.Tests.{le-leb, leb-true}
-use lib.Dec.{T, leb}
+use lib.Dec.{leb}
 use Rattle.bits.specs.Bits.{bit_at, count, set_below}
 use Rattle.bits.proofs.Slots.{below_le, below_strict}
-use Rattle.tiers.specs.Tiers.{child_spacings, data_spacings, spacing_of, tier_of, Smallest}
-use Rattle.tiers.proofs.Tiers.{within, spacing_le, child_smallest, data_smallest}
-use Rattle.walk.specs.Steps.{children_within, data_within}
+use Rattle.tiers.specs.Tiers.{spacings as kind, child_spacings, data_spacings, spacing_of, tier_of, Smallest}
+use Rattle.tiers.proofs.Tiers.{child_smallest, data_smallest}
+use Rattle.walk.specs.Steps.{block_within, children_within, data_within}
+
+-- no block of a kind is wider than its widest
+widest : (top t : ℕ) → 24 ≤ top → spacing_of (kind top) t ≤ top
+unfolding spacing_of
+widest top zero h = omega arith
+widest top (suc zero) h = omega arith
+widest top (suc (suc zero)) h = omega arith
+widest top (suc (suc (suc zero))) h = omega arith
+widest top (suc (suc (suc (suc zero)))) h = omega arith
+widest top (suc (suc (suc (suc (suc zero))))) h = omega arith
+widest top (suc (suc (suc (suc (suc (suc zero)))))) h = omega arith
+widest top (suc (suc (suc (suc (suc (suc (suc t))))))) h = omega arith
+
+-- so where the widest block fits, every block does
+pub widest_fits : (top lim n start : ℕ) → 24 ≤ top → start + top ≤ lim → true ≡ block_within (kind top) lim n start
+widest_fits top lim n start h k = sym (le-leb (start + spacing_of (kind top) (tier_of (kind top) n)) lim (omega (arith, widest top (tier_of (kind top) n) h)))
 
 module _ (spacings : List ℕ) (lim n start : ℕ) where
-  -- where the widest block fits, every block does
-  pub widest_fits : (b : ℕ) → T (within b spacings) → start + b ≤ lim → leb (start + spacing_of spacings (tier_of spacings n)) lim ≡ true
-  widest_fits b w h = le-leb (start + spacing_of spacings (tier_of spacings n)) lim (omega (arith, spacing_le b spacings w (tier_of spacings n)))
-
-  -- the exact answer, worked out in steps
-  pub spacing_fits : (s₁ n₁ t₁ p₁ p₂ l₁ : ℕ) → n₁ ≡ n → t₁ ≡ tier_of spacings n₁ → p₁ ≡ spacing_of spacings t₁ → s₁ ≡ start → p₂ ≡ p₁ → l₁ ≡ lim
-      → leb (s₁ + p₂) l₁ ≡ leb (start + spacing_of spacings (tier_of spacings n)) lim
-  spacing_fits s₁ n₁ t₁ p₁ p₂ l₁ en et ep es eq el = rw (es, eq, el, ep, et, en)
-
   -- the items of a block below the mark stand below it
   pub item_below : Smallest spacings n (tier_of spacings n) → leb (start + spacing_of spacings (tier_of spacings n)) lim ≡ true → (i : ℕ) → i < n → start + i < lim
   item_below m h i k = omega (arith, leb-true (start + spacing_of spacings (tier_of spacings n)) lim h, m.holds)

@@ -1,105 +1,101 @@
 -- The three lookups as walks over lent words: what each sees (document 01, calls and number 5). Assumes nothing.
 -- `lim` is the node mark; a walk visits at most seven nodes, so `fuel` starts at 7.
-use Rattle.std.specs.Prelude.{cond, List, ℕ, zero, suc, ◌+◌, ◌/◌, ◌<◌, ◌≤◌, ltb, eqb}
+use Rattle.std.specs.Prelude.{Bool, false, cond, List, Option, Some, None, is_some, Result, Ok, Err, ℕ, zero, suc, ◌+◌, ◌/◌, ltb}
 use Rattle.bits.specs.Bits.{has}
-use Rattle.prefix.specs.Prefix.{width}
 use Rattle.tiers.specs.Tiers.{stride}
 use Rattle.places.specs.Places.{data_bit, length_at}
 use Rattle.node.specs.declared.MultiBitNode.{MultiBitNode}
-use Rattle.node.specs.declared.Found.{Found}
-use Rattle.node.specs.declared.Found.TheVariants.{At, Nothing}
 use Rattle.node.specs.Matches.{longest_in, shortest_in}
 use Rattle.store.specs.Words.{node_at}
-use Rattle.walk.specs.declared.Step.{Step}
-use Rattle.walk.specs.declared.Step.TheVariants.{Down, End, Broken}
+use Rattle.refusals.specs.declared.Refusal.{Refusal}
+use Rattle.refusals.specs.declared.Refusal.TheVariants.{Broken}
 use Rattle.walk.specs.declared.Sight.{Sight}
-use Rattle.walk.specs.declared.Sight.TheVariants.{Unsound, Missing, Rule}
-use Rattle.walk.specs.declared.lookups.Best.{Best}
+use Rattle.walk.specs.declared.Rule.{Rule}
+use Rattle.walk.specs.declared.best.Best.{Best}
 use Rattle.walk.specs.Steps.{sound_of, step_of}
 
 -- nodes visited when the walk stands at depth d
 abbrev pub visited : ℕ → ℕ
 visited d = d / stride + 1
 
--- the rule of data bit b in the node x at depth d, with the nodes visited so far
-abbrev pub rule_in : MultiBitNode → ℕ → ℕ → ℕ → Sight
-rule_in x d b n = Rule x.data_idx x.data_bitmap b (length_at d b) n
+-- the rule of data bit b in the node x at depth d
+abbrev pub rule_in : MultiBitNode → ℕ → ℕ → Rule
+rule_in x d b = record { cells = x.data_idx; bitmap = x.data_bitmap; bit = b; len = length_at d b }
 
--- ---- longest: the candidate of a deeper node wins; what was seen last is told with the whole path's count
+-- a rule seen, with its length worked out
+abbrev pub rule_of : Best → Rule
+rule_of best = record { cells = best.cells; bitmap = best.bitmap; bit = best.bit; len = length_at best.depth best.bit }
 
-unfoldable pub better : Found → MultiBitNode → ℕ → Sight → Sight
-better (At b) x d best = rule_in x d b 0
-better Nothing x d best = best
+-- what is seen by a walk that ends at depth d
+abbrev pub seen_at : ℕ → Option Rule → Sight
+seen_at d rule = record { rule = rule; visits = visited d }
 
--- the count is put in where the path ends
-unfoldable pub counted : Sight → ℕ → Sight
-counted Unsound n = Unsound
-counted (Missing c) n = Missing n
-counted (Rule cells bitmap b len c) n = Rule cells bitmap b len n
+-- ---- a lookup's way: what it makes of the nodes of the path, one after the other
 
--- what the numbers of a best rule stay within
-pub record Bounded (best : Best) : Type 0 where
-  pub low : best.bit < 31
-  pub near : best.depth ≤ width
+-- the best rule after a node, from the best before it; whether that rule ends the walk; what is told where the walk ends.
+-- Of a node: its words, its depth, the query's key and length
+pub record Way : Type 0 where
+  pub meets : Option Rule → MultiBitNode → ℕ → ℕ → ℕ → Option Rule
+  pub stops : Option Rule → Bool
+  pub tells : Option Rule → MultiBitNode → ℕ → ℕ → ℕ → Option Rule
 
--- a best rule as a sight, before the count is known; a bitmap of 0 has no rule
-unfoldable pub best_sight : Best → Sight
-best_sight best = cond (eqb best.bitmap 0) (Missing 0) (Rule best.cells best.bitmap best.bit (length_at best.depth best.bit) 0)
+-- a node's own rule, if a match in it found one, before the best so far
+unfoldable pub better : Option ℕ → MultiBitNode → ℕ → Option Rule → Option Rule
+better (Some b) x d best = Some (rule_in x d b)
+better None x d best = best
 
-unfoldable pub longest_step : Step → Sight → ℕ → (ℕ → Sight) → Sight
-longest_step Broken best d on = Unsound
-longest_step End best d on = counted best (visited d)
-longest_step (Down at) best d on = on at
+-- longest: the candidate of a deeper node wins, and the path is walked to its end
+abbrev pub longest_way : Way
+longest_way = record {
+  meets = λ best x d key len. better (longest_in x.data_bitmap d key len) x d best;
+  stops = λ best. false;
+  tells = λ best x d key len. best;
+}
 
-unfoldable pub longest_from : ℕ → List ℕ → ℕ → ℕ → ℕ → ℕ → ℕ → Sight → Sight
-longest_from zero l lim key len at d best = Unsound
-longest_from (suc fuel) l lim key len at d best =
+-- shortest: the first node that holds a covering rule
+abbrev pub shortest_way : Way
+shortest_way = record {
+  meets = λ best x d key len. better (shortest_in x.data_bitmap d key len) x d best;
+  stops = λ best. is_some best;
+  tells = λ best x d key len. best;
+}
+
+-- exact: the rule itself, in the node where the path ends at the query's own depth
+unfoldable pub exact_in : MultiBitNode → ℕ → ℕ → ℕ → Option Rule
+exact_in x key len d = cond (ltb len (d + stride)) (cond (has x.data_bitmap (data_bit key len)) (Some (rule_in x d (data_bit key len))) None) None
+
+abbrev pub exact_way : Way
+exact_way = record {
+  meets = λ best x d key len. best;
+  stops = λ best. false;
+  tells = λ best x d key len. exact_in x key len d;
+}
+
+-- ---- the walk
+
+unfoldable pub walk_step : Result (Option ℕ) Refusal → Sight → (ℕ → Result Sight Refusal) → Result Sight Refusal
+walk_step (Err r) told on = Err r
+walk_step (Ok None) told on = Ok told
+walk_step (Ok (Some at)) told on = on at
+
+unfoldable pub walk_from : Way → ℕ → List ℕ → ℕ → ℕ → ℕ → ℕ → ℕ → Option Rule → Result Sight Refusal
+walk_from w zero l lim key len at d best = Err Broken
+walk_from w (suc fuel) l lim key len at d best =
     let x = node_at l at in
-    let b = better (longest_in x.data_bitmap d key len) x d best in
-    cond (sound_of x) (longest_step (step_of lim key len d x) b d (λ next. longest_from fuel l lim key len next (d + stride) b)) Unsound
-
--- ---- shortest: the first node that holds a covering rule
-
-unfoldable pub shortest_step : Found → Step → MultiBitNode → ℕ → (ℕ → Sight) → Sight
-shortest_step (At b) s x d on = rule_in x d b (visited d)
-shortest_step Nothing Broken x d on = Unsound
-shortest_step Nothing End x d on = Missing (visited d)
-shortest_step Nothing (Down at) x d on = on at
-
-unfoldable pub shortest_from : ℕ → List ℕ → ℕ → ℕ → ℕ → ℕ → ℕ → Sight
-shortest_from zero l lim key len at d = Unsound
-shortest_from (suc fuel) l lim key len at d =
-    let x = node_at l at in
-    cond (sound_of x)
-    (shortest_step (shortest_in x.data_bitmap d key len) (step_of lim key len d x) x d (λ next. shortest_from fuel l lim key len next (d + stride)))
-    Unsound
-
--- ---- exact: the rule itself, in the node where the path ends at the query's own depth
-
-unfoldable pub exact_in : MultiBitNode → ℕ → ℕ → ℕ → Sight
-exact_in x key len d =
-    cond (ltb len (d + stride)) (cond (has x.data_bitmap (data_bit key len)) (rule_in x d (data_bit key len) (visited d)) (Missing (visited d))) (Missing (visited d))
-
-unfoldable pub exact_step : Step → MultiBitNode → ℕ → ℕ → ℕ → (ℕ → Sight) → Sight
-exact_step Broken x key len d on = Unsound
-exact_step End x key len d on = exact_in x key len d
-exact_step (Down at) x key len d on = on at
-
-unfoldable pub exact_from : ℕ → List ℕ → ℕ → ℕ → ℕ → ℕ → ℕ → Sight
-exact_from zero l lim key len at d = Unsound
-exact_from (suc fuel) l lim key len at d =
-    let x = node_at l at in
-    cond (sound_of x) (exact_step (step_of lim key len d x) x key len d (λ next. exact_from fuel l lim key len next (d + stride))) Unsound
+    let b = w.meets best x d key len in
+    let told = seen_at d (w.tells b x d key len) in
+    let on = walk_step (step_of lim key len d x) told (λ next. walk_from w fuel l lim key len next (d + stride) b) in
+    cond (sound_of x) (cond (w.stops b) (Ok told) on) (Err Broken)
 
 -- from the root; a mark of 0 leaves no root to read
-abbrev pub from_root : ℕ → Sight → Sight
-from_root lim s = cond (ltb 0 lim) s Unsound
+unfoldable pub walk_of : Way → List ℕ → ℕ → ℕ → ℕ → Result Sight Refusal
+walk_of w l lim key len = cond (ltb 0 lim) (walk_from w 7 l lim key len 0 0 None) (Err Broken)
 
-unfoldable pub longest_sight : List ℕ → ℕ → ℕ → ℕ → Sight
-longest_sight l lim key len = from_root lim (longest_from 7 l lim key len 0 0 (Missing 0))
+abbrev pub longest_sight : List ℕ → ℕ → ℕ → ℕ → Result Sight Refusal
+longest_sight = walk_of longest_way
 
-unfoldable pub shortest_sight : List ℕ → ℕ → ℕ → ℕ → Sight
-shortest_sight l lim key len = from_root lim (shortest_from 7 l lim key len 0 0)
+abbrev pub shortest_sight : List ℕ → ℕ → ℕ → ℕ → Result Sight Refusal
+shortest_sight = walk_of shortest_way
 
-unfoldable pub exact_sight : List ℕ → ℕ → ℕ → ℕ → Sight
-exact_sight l lim key len = from_root lim (exact_from 7 l lim key len 0 0)
+abbrev pub exact_sight : List ℕ → ℕ → ℕ → ℕ → Result Sight Refusal
+exact_sight = walk_of exact_way

@@ -1,11 +1,11 @@
 -- One step of a walk (document 01, "Walk, insert, remove", and number 5's tests at a node). Assumes nothing.
-use Rattle.std.specs.Prelude.{Bool, true, false, not, ◌&&◌, cond, ℕ, ◌+◌, ltb, leb, eqb}
+use Rattle.std.specs.Prelude.{Bool, true, false, not, ◌&&◌, cond, List, Option, Some, None, Result, Ok, Err, ℕ, ◌+◌, ltb, leb, eqb}
 use Rattle.bits.specs.Bits.{has, count, set_below}
 use Rattle.tiers.specs.Tiers.{stride, child_spacings, data_spacings, spacing_of, tier_of, empty}
 use Rattle.places.specs.Places.{child_bit}
 use Rattle.node.specs.declared.MultiBitNode.{MultiBitNode}
-use Rattle.walk.specs.declared.Step.{Step}
-use Rattle.walk.specs.declared.Step.TheVariants.{Down, End, Broken}
+use Rattle.refusals.specs.declared.Refusal.{Refusal}
+use Rattle.refusals.specs.declared.Refusal.TheVariants.{Broken}
 
 -- two tests agree
 abbrev pub agree : Bool → Bool → Bool
@@ -27,19 +27,23 @@ unfoldable pub children_whole : MultiBitNode → Bool
 children_whole n = agree (eqb n.child_bitmap 0) (eqb n.children_idx.0 empty)
 
 -- a block of n items that starts at s lies wholly below the mark; a block is its whole spacing
+abbrev pub block_within : List ℕ → ℕ → ℕ → ℕ → Bool
+block_within kind lim n s = leb (s + spacing_of kind (tier_of kind n)) lim
+
 unfoldable pub children_within : ℕ → ℕ → ℕ → Bool
-children_within lim n s = leb (s + spacing_of child_spacings (tier_of child_spacings n)) lim
+children_within lim n s = block_within child_spacings lim n s
 
 unfoldable pub data_within : ℕ → ℕ → ℕ → Bool
-data_within lim n s = leb (s + spacing_of data_spacings (tier_of data_spacings n)) lim
+data_within lim n s = block_within data_spacings lim n s
 
--- on from the node x at depth d: down by child_bit while the child exists and its depth is at most the query's length
-unfoldable pub step_of : ℕ → ℕ → ℕ → ℕ → MultiBitNode → Step
+-- on from the node x at depth d: down by child_bit while the child exists and its depth is at most the query's length. A step is the position
+-- of the next node, none at the end of the path, or broken memory
+unfoldable pub step_of : ℕ → ℕ → ℕ → ℕ → MultiBitNode → Result (Option ℕ) Refusal
 step_of lim key len d x =
     cond (leb (d + stride) len)
     (cond (has x.child_bitmap (child_bit d key))
     (cond (children_within lim (count x.child_bitmap) x.children_idx.0)
-    (Down (x.children_idx.0 + set_below x.child_bitmap (child_bit d key)))
-    Broken)
-    End)
-    End
+    (Ok (Some (x.children_idx.0 + set_below x.child_bitmap (child_bit d key))))
+    (Err Broken))
+    (Ok None))
+    (Ok None)

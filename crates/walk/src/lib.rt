@@ -2,116 +2,136 @@
 // Everything is total on any memory whose mark is within the pool: a step that leaves what is issued is number 5.
 #![tactic(auto)]
 
+mod best;
 pub mod lookups;
 pub mod trails;
 
 ghost use Rattle.std.specs.Prelude.{◌≡◌, Bool, ◌+◌, ◌*◌, ◌≤◌, eqb, length};
 ghost use Rattle.bits.specs.Bits.{count};
-ghost use Rattle.places.specs.Places.{rest_at};
-ghost use Rattle.node.specs.Masks.{InTree};
+ghost use Rattle.tiers.specs.Tiers.{spacings};
 ghost use Rattle.store.specs.Words.{node_at};
-ghost use Rattle.walk.specs.Steps.{agree, sound_of, data_whole, children_whole, children_within, data_within, step_of};
+ghost use Rattle.walk.specs.Steps.{agree, sound_of, data_whole, children_whole, block_within, children_within, data_within, step_of};
 
+use bits::Bit;
 use node::MultiBitNode;
-use tiers::{CellAt, ChildPool, DataPool};
+use node::views::View;
+use refusals::Refusal;
+use std::marker::Model;
+use store::Item;
+use tiers::{CellAt, ChildPool, DataPool, Kind, wide};
 
 // Bit 31, which no data bitmap has.
 const BIT_31: u32 = 0x8000_0000;
 
-// On from a node: down to the child's position, the end of the path, or number 5.
+// A rule that a lookup sees: its node's cells and data bitmap, its data bit, and its length.
 #[derive(Clone, Copy)]
-pub enum Step {
-    Down(u32),
-    End,
-    Broken,
+pub struct Rule {
+    pub cells: CellAt,
+    pub bitmap: u32,
+    pub bit: Bit,
+    pub len: u32,
 }
 
-// What a lookup sees: number 5; no rule, with the nodes visited; or a rule: the node's cells and data bitmap, the rule's
-// data bit and length, and the nodes visited.
+// What a lookup sees: a rule, if there is one, and the nodes visited.
 #[derive(Clone, Copy)]
-pub enum Sight {
-    Unsound,
-    Missing(u32),
-    Rule(CellAt, u32, u32, u32, u32),
+pub struct Sight {
+    pub rule: Option<Rule>,
+    pub visits: u32,
 }
 
-// The walk of an edit: the nodes on the way, by level, and where they stand.
+// A node on the way, and where it stands.
+#[derive(Clone, Copy)]
+pub struct Passed {
+    pub at: u32,
+    pub node: MultiBitNode,
+}
+
+// The walk of an edit: the nodes on the way, by level, each with its position. A clause sees the depth of the last, and positions and
+// nodes as two lists. (An array and a depth, no Vec: fixed memory, seven nodes at most.)
 #[derive(Clone, Copy)]
 pub struct Trail {
-    pub sound: bool,
     pub depth: u32,
-    pub places: [u32; 7],
-    pub nodes: [MultiBitNode; 7],
+    pub steps: [Passed; 7],
+}
+
+impl Model for Trail {
+    ghost use Rattle.std.specs.Prelude.{◌≤◌};
+    ghost use Rattle.std.proofs.Common.{ap};
+    ghost use Rattle.walk.specs.Passages.{Passage, places_of, nodes_of, steps_of, steps_again};
+
+    ghost Value = { Passage };
+
+    ghost view = { λ t. record { depth = t.depth; places = places_of t.steps; nodes = nodes_of t.steps } };
+
+    ghost invariant = { λ t. t.depth ≤ 30 };
+
+    ghost inverse = { λ p. record { depth = p.depth; steps = steps_of p.places p.nodes } };
+
+    ghost inverse_ok = { λ t h. ap (λ l. record { depth = t.depth; steps = l }) (steps_again t.steps) };
 }
 
 // A bitmap is zero exactly where its index is empty.
 fn paired(bitmap: u32, unused: bool) -> bool
     ensures { result ≡ agree (eqb bitmap 0) unused }
 {
-    if bitmap == 0 {
-        return unused;
-    }
-    !unused
+    if bitmap == 0 { unused } else { !unused }
 }
 
 // Is the node whole? Number 5 is given where it isn't.
+#[tactic(auto, using(crate::proofs::Halves::halves))]
 pub fn sound(x: MultiBitNode) -> bool
     ensures { result ≡ sound_of x }
 {
-    let cells = x.data_idx;
-    let children = x.children_idx;
-    if paired(x.data_bitmap, cells.is_empty()) {
-        if paired(x.child_bitmap, children.is_empty()) {
-            return x.data_bitmap < BIT_31;
-        }
-        return false;
-    }
-    false
+    data_whole(x) && children_whole(x)
 }
 
-// The rules' half of that test. A lookup asks for the rules at once, so its branch on the bitmap is the same one.
+// The rules' half of that test. A lookup asks for the rules at once, so its branch on the bitmap is the same one. (By `paired`, as the
+// children's half, exact took 27 and longest 62 instructions more.)
+#[tactic(auto, unfolding(crate::specs::Steps::data_whole))]
 fn data_whole(x: MultiBitNode) -> bool
     ensures { result ≡ data_whole x }
 {
-    let cells = x.data_idx;
     if x.data_bitmap == 0 {
-        return cells.is_empty();
+        return x.data_idx.is_empty();
     }
-    if cells.is_empty() {
-        return false;
-    }
-    x.data_bitmap < BIT_31
+    !x.data_idx.is_empty() && x.data_bitmap < BIT_31
 }
 
-// The children's half. A lookup asks it only where its walk ends: a step down says it, as a child is there, and no block below the mark
-// starts at the empty index.
+// The children's half. A lookup asks it only where its walk ends.
+#[tactic(auto, unfolding(crate::specs::Steps::children_whole))]
 fn children_whole(x: MultiBitNode) -> bool
     ensures { result ≡ children_whole x }
 {
-    let children = x.children_idx;
-    paired(x.child_bitmap, children.is_empty())
+    paired(x.child_bitmap, x.children_idx.is_empty())
 }
 
-// Does the block of a child bitmap that starts here lie wholly below the mark? Children are counted only near the mark.
+// Does the block of a bitmap that starts here lie wholly below the mark? What the bitmap has is counted only near the mark.
+fn block_within<K: Kind>(lim: u32, bitmap: u32, start: u32) -> bool
+    requires { 24 ≤ K.WIDEST }
+    ensures { result ≡ block_within (spacings K.WIDEST) lim (count bitmap) start }
+{
+    let begin = wide(start);
+    let end = wide(lim);
+    if begin + wide(K::WIDEST) <= end {
+        return true;
+    }
+    begin + wide(K::spacing(K::tier(bits::count_bits(bitmap)))) <= end
+}
+
+// That of a child bitmap. (The definitions name both; each is one line over block_within.)
+#[tactic(auto, unfolding(crate::specs::Steps::children_within))]
 pub fn children_within(lim: u32, bitmap: u32, start: u32) -> bool
     ensures { result ≡ children_within lim (count bitmap) start }
 {
-    if tiers::wide(start) + tiers::wide(ChildPool::WIDEST) <= tiers::wide(lim) {
-        return true;
-    }
-    let spacing = ChildPool::spacing(ChildPool::tier(bits::count_bits(bitmap)));
-    tiers::wide(start) + tiers::wide(spacing) <= tiers::wide(lim)
+    block_within::<ChildPool>(lim, bitmap, start)
 }
 
-// The same of the block of a data bitmap.
+// That of a data bitmap.
+#[tactic(auto, unfolding(crate::specs::Steps::data_within))]
 pub fn data_within(lim: u32, bitmap: u32, start: u32) -> bool
     ensures { result ≡ data_within lim (count bitmap) start }
 {
-    if tiers::wide(start) + tiers::wide(DataPool::WIDEST) <= tiers::wide(lim) {
-        return true;
-    }
-    let spacing = DataPool::spacing(DataPool::tier(bits::count_bits(bitmap)));
-    tiers::wide(start) + tiers::wide(spacing) <= tiers::wide(lim)
+    block_within::<DataPool>(lim, bitmap, start)
 }
 
 // The node at a position below the mark.
@@ -119,43 +139,23 @@ fn load(nodes: &[u32], at: u32) -> MultiBitNode
     requires { at * 4 + 4 ≤ length nodes.now }
     ensures { result ≡ node_at nodes.now at }
 {
-    store::node_at(nodes, tiers::wide(at))
+    MultiBitNode::at(nodes, wide(at))
 }
 
-// On from the node x at a depth: down by child_bit while the child exists and its depth is at most the query's length.
-pub fn next_step(lim: u32, key: u32, len: u32, depth: u32, x: MultiBitNode) -> Step
-    requires { InTree depth len }
-    ensures { result ≡ step_of lim key len depth x }
+// On from the node x: down by the key's child while the child exists and its depth is at most the query's length.
+pub fn next_step(lim: u32, v: View, x: MultiBitNode) -> Result<Option<u32>, Refusal>
+    ensures { result ≡ step_of lim v.key v.len v.depth x }
 {
-    if len - depth < ChildPool::STRIDE {
-        return Step::End;
+    if v.len - v.depth < ChildPool::STRIDE {
+        return Ok(None);
     }
-    let bit = places::child_bit(depth, key);
-    if x.has_child_bit(bit) {
-        let start = x.children_idx.0;
-        if children_within(lim, x.child_bitmap, start) {
-            return Step::Down(start + x.child_slot(bit));
-        }
-        return Step::Broken;
+    let bit = places::rest_child(v.rest, v.depth, v.key);
+    if !x.has_child_bit(bit) {
+        return Ok(None);
     }
-    Step::End
-}
-
-// The same as next_step, from what is left of the key below the depth.
-fn rest_step(lim: u32, key: u32, len: u32, depth: u32, rest: u32, x: MultiBitNode) -> Step
-    requires { InTree depth len × (rest ≡ rest_at key depth) }
-    ensures { result ≡ step_of lim key len depth x }
-{
-    if len - depth < ChildPool::STRIDE {
-        return Step::End;
+    let start = x.children_idx.0;
+    if !children_within(lim, x.child_bitmap, start) {
+        return Err(Refusal::Broken);
     }
-    let bit = places::rest_child(rest, depth, key);
-    if x.has_child_bit(bit) {
-        let start = x.children_idx.0;
-        if children_within(lim, x.child_bitmap, start) {
-            return Step::Down(start + x.child_slot(bit));
-        }
-        return Step::Broken;
-    }
-    Step::End
+    Ok(Some(start + x.child_slot(bit)))
 }

@@ -7,10 +7,10 @@ ghost use Rattle.std.specs.Prelude.{◌≡◌, get_or, set};
 pub fn read(s: &[u32], i: usize) -> u32
     ensures { result ≡ get_or s.now i 0 }
 {
-    if i < s.len() { s[i] } else { 0 }
+    s.get(i).copied().unwrap_or(0)
 }
 
-// A word is written, past the end nothing.
+// A word is written, past the end nothing. (`get_mut` of a slice promises its length and no word, so the index is tested here.)
 pub fn put(s: &mut [u32], i: usize, v: u32)
     ensures { s.new ≡ set s.old i v }
 {

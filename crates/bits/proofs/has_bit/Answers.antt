@@ -7,4 +7,7 @@ use Rattle.bits.proofs.OneBit.{one_shl, and_test}
 use Rattle.bits.proofs.has_bit.Goals as goal
 
 pub returns : goal.returns
-returns c = ap (λ (x : ℕ). not (eqb (bit_and c.args.bitmap x) 0)) (one_shl 32 c.requires) ∙ and_test c.args.bitmap c.args.bit
+returns c =
+    rw (← c.bit.view_is) (
+    ap (λ (x : ℕ). not (eqb (bit_and c.args.bitmap x) 0)) (one_shl 32 c.bit.invariant) ∙ and_test c.args.bitmap c.bit.inside.number
+    )

@@ -6,5 +6,8 @@ use Rattle.bits.proofs.unset_bit.Goals as goal
 
 pub returns : goal.returns
 returns c =
-    ap (λ (x : ℕ). bit_and c.args.bitmap ((2 ^ 32 - 1) - x)) (one_shl 32 c.requires)
-    ∙ and_without 32 c.args.bitmap c.args.bit c.ranges.bitmap.fits c.requires
+    let b = c.bit in
+    rw (← b.view_is) (
+    ap (λ (x : ℕ). bit_and c.args.bitmap ((2 ^ 32 - 1) - x)) (one_shl 32 b.invariant)
+    ∙ and_without 32 c.args.bitmap b.inside.number c.ranges.bitmap.fits b.invariant
+    )

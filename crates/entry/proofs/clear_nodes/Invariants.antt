@@ -1,12 +1,7 @@
 -- `entry::clear_nodes` meets its contract: a turn writes the next node. Assumes nothing.
 use mathlib.Core.Path.{◌≡◌}
-use Prim.Native.Nat.{◌-◌, ◌≤◌}
-use lib.ListN.{length}
 use Rattle.entry.specs.Fresh.{empty_nodes}
 use Rattle.entry.proofs.clear_nodes.Given as goal
 
 abbrev pub invariant-loop-i : goal.invariant-loop-i
-invariant-loop-i l = (l.i ≤ l.n) × (length l.nodes ≡ length l.initial.nodes) × (l.nodes ≡ empty_nodes l.i l.initial.nodes)
-
-abbrev pub decreases-loop-i : goal.decreases-loop-i
-decreases-loop-i l = l.n - l.i
+invariant-loop-i l = l.nodes ≡ empty_nodes l.i l.initial.nodes

@@ -5,26 +5,18 @@ use Rattle.places.proofs.Windows.{window_lt}
 use Rattle.node.proofs.Masks.{lpm_row}
 use Rattle.node.proofs.data_lpm_mask.Goals as goal
 
+pub path_bits-requires-else-v-lt4 : goal.path_bits-requires-else-v-lt4
+path_bits-requires-else-v-lt4 c = let v = c.args.v in omega (arith, window_lt v.key v.depth 4, c.rest_place-place.ensures)
+
 pub path_bits-requires : goal.path_bits-requires
-path_bits-requires c =
-    let a = c.args in
-    let w = window_lt a.key a.depth 4 in
-    let e = c.row_place-place.ensures in
-    (omega arith, omega arith)
+path_bits-requires c = let v = c.args.v in (omega arith, omega (arith, window_lt v.key v.depth 4, c.rest_place-place.ensures))
 
-pub path_bits-requires-else-len-depth-lt4 : goal.path_bits-requires-else-len-depth-lt4
-path_bits-requires-else-len-depth-lt4 c =
-    let a = c.args in
-    let w = window_lt a.key a.depth 4 in
-    let e = c.row_place-place.ensures in
-    (omega arith, omega arith)
+pub returns-then-v-lt4 : goal.returns-then-v-lt4
+returns-then-v-lt4 c =
+    let v = c.args.v in
+    lpm_row v.depth v.key v.len _ _ _ v.in_tree c.rest_place-place.ensures c.path_bits.ensures (omega arith) (omega (arith, v.in_tree.from)) (inl (omega (arith, v.in_tree.from)))
 
-pub returns-then-len-depth-lt4 : goal.returns-then-len-depth-lt4
-returns-then-len-depth-lt4 c =
-    lpm_row c.args.depth c.args.key c.args.len _ _ _ c.requires c.row_place-place.ensures c.path_bits.ensures (omega arith) (omega arith)
-    (inl (omega arith))
-
-pub returns-else-len-depth-lt4 : goal.returns-else-len-depth-lt4
-returns-else-len-depth-lt4 c =
-    lpm_row c.args.depth c.args.key c.args.len _ _ _ c.requires c.row_place-place.ensures c.path_bits-else-len-depth-lt4.ensures (omega arith) (omega arith)
-    (inr (omega arith))
+pub returns-else-v-lt4 : goal.returns-else-v-lt4
+returns-else-v-lt4 c =
+    let v = c.args.v in
+    lpm_row v.depth v.key v.len _ _ _ v.in_tree c.rest_place-place.ensures c.path_bits-else-v-lt4.ensures (omega arith) (omega (arith, v.in_tree.from)) (inr (omega arith))

@@ -1,8 +1,7 @@
 -- `order::lex_after_child` meets its contract: a pair of the tested table. Assumes nothing.
-use mathlib.Core.Path.{refl}
 use Rattle.order.proofs.Tables.{lex_after_child, after_child}
 use Rattle.order.proofs.lex_after_child.Goals as goal
 
 pub returns : goal.returns
 unfolding lex_after_child
-returns c = after_child c.args.bit _ _ c.requires refl refl
+returns c = after_child c.args.bit c.requires

@@ -1,8 +1,7 @@
 -- `order::lex_after_data` meets its contract: a pair of the tested table. Assumes nothing.
-use mathlib.Core.Path.{refl}
 use Rattle.order.proofs.Tables.{lex_after_data, from_data}
 use Rattle.order.proofs.lex_after_data.Goals as goal
 
 pub returns : goal.returns
 unfolding lex_after_data
-returns c = from_data c.args.bit _ _ c.requires refl refl
+returns c = from_data c.args.bit c.requires

@@ -4,7 +4,7 @@ use Rattle.places.proofs.Levels.{level_top}
 use Rattle.places.proofs.level_of.Goals as goal
 
 pub overflow_sub-result : goal.overflow_sub-result
-overflow_sub-result c = omega (arith, level_top c.args.bit c.requires)
+overflow_sub-result c = omega (arith, level_top c.bit.inside.number (rw c.bit.view_is c.requires))
 
 pub returns : goal.returns
-returns c = omega (arith, level_top c.args.bit c.requires)
+returns c = rw (← c.bit.view_is) (omega (arith, level_top c.bit.inside.number (rw c.bit.view_is c.requires)))

@@ -1,56 +1,53 @@
 -- `walk::next_step` meets its contract: each test that fails gives its case. Assumes nothing.
 use mathlib.Core.Path.{sym}
+use Prim.Native.Nat.{◌+◌, ◌≤◌}
 use native.Mathlib.Omega.{arith}
-use Rattle.places.proofs.Children.{child_lt}
+use Rattle.tiers.specs.Tiers.{stride}
 use Rattle.walk.proofs.Steps.{step_deep, next_none, next_broken, next_below, next_down}
 use Rattle.walk.proofs.next_step.Goals as goal
 
-pub overflow_sub-len : goal.overflow_sub-len
-overflow_sub-len c = omega (arith, c.requires.from)
+pub returns-then-v-lt-STRIDE : goal.returns-then-v-lt-STRIDE
+returns-then-v-lt-STRIDE c =
+    let v = c.args.v in
+    sym (step_deep c.args.lim v.key v.len v.depth c.args.x (omega (arith, c.if-v-lt-STRIDE.true, v.in_tree.from)))
 
-pub returns-then-len-depth-lt-STRIDE : goal.returns-then-len-depth-lt-STRIDE
-returns-then-len-depth-lt-STRIDE c =
-    let a = c.args in
-    sym (step_deep a.lim a.key a.len a.depth a.x (omega (arith, c.if-len-depth-lt-STRIDE.true, c.requires.from)))
+pub returns-then-not-has_child_bit : goal.returns-then-not-has_child_bit
+returns-then-not-has_child_bit c =
+    let v = c.args.v in
+    let h : v.depth + stride ≤ v.len = omega (arith, c.if-v-lt-STRIDE.false, v.in_tree.from) in
+    let b = c.rest_child-bit in
+    let t = c.has_child_bit in
+    next_none c.args.lim v.key v.len v.depth c.args.x h b.result b.ensures t.result t.ensures c.if-not-has_child_bit.true
 
-pub child_bit-bit-requires : goal.child_bit-bit-requires
-child_bit-bit-requires c = omega (arith, c.if-len-depth-lt-STRIDE.false, c.requires.from, c.requires.within)
-
-pub has_child_bit-requires : goal.has_child_bit-requires
-has_child_bit-requires c = omega (arith, c.child_bit-bit.ensures, child_lt c.args.depth c.args.key)
-
-pub child_slot-requires : goal.child_slot-requires
-child_slot-requires c = omega (arith, c.child_bit-bit.ensures, child_lt c.args.depth c.args.key)
+pub returns-then-not-children_within : goal.returns-then-not-children_within
+returns-then-not-children_within c =
+    let v = c.args.v in
+    let h : v.depth + stride ≤ v.len = omega (arith, c.if-v-lt-STRIDE.false, v.in_tree.from) in
+    let b = c.rest_child-bit in
+    let t = c.has_child_bit in
+    let w = c.children_within in
+    next_broken c.args.lim v.key v.len v.depth c.args.x h b.result b.ensures t.result t.ensures
+    c.if-not-has_child_bit.false w.result w.ensures c.if-not-children_within.true
 
 pub overflow_add-result : goal.overflow_add-result
 overflow_add-result c =
-    let a = c.args in
-    let b = c.child_bit-bit in
+    let v = c.args.v in
+    let h : v.depth + stride ≤ v.len = omega (arith, c.if-v-lt-STRIDE.false, v.in_tree.from) in
+    let b = c.rest_child-bit in
     let t = c.has_child_bit in
     let w = c.children_within in
     let s = c.child_slot in
-    omega (arith, next_below a.lim a.key a.len a.depth a.x (omega (arith, c.if-len-depth-lt-STRIDE.false, c.requires.from)) b.result b.ensures t.result t.ensures c.if-has_child_bit.true w.result w.ensures c.if-children_within.true s.result s.ensures, c.ranges.lim.fits)
-
-pub returns-then-children_within : goal.returns-then-children_within
-returns-then-children_within c =
-    let a = c.args in
-    let b = c.child_bit-bit in
-    let t = c.has_child_bit in
-    let w = c.children_within in
-    let s = c.child_slot in
-    next_down a.lim a.key a.len a.depth a.x (omega (arith, c.if-len-depth-lt-STRIDE.false, c.requires.from)) b.result b.ensures t.result t.ensures c.if-has_child_bit.true w.result w.ensures c.if-children_within.true s.result s.ensures
-
-pub returns-then-has_child_bit : goal.returns-then-has_child_bit
-returns-then-has_child_bit c =
-    let a = c.args in
-    let b = c.child_bit-bit in
-    let t = c.has_child_bit in
-    let w = c.children_within in
-    next_broken a.lim a.key a.len a.depth a.x (omega (arith, c.if-len-depth-lt-STRIDE.false, c.requires.from)) b.result b.ensures t.result t.ensures c.if-has_child_bit.true w.result w.ensures c.if-children_within.false
+    let below = next_below c.args.lim v.key v.len v.depth c.args.x h b.result b.ensures t.result t.ensures
+    c.if-not-has_child_bit.false w.result w.ensures c.if-not-children_within.false s.result s.ensures in
+    omega (arith, below, c.ranges.lim.fits)
 
 pub returns : goal.returns
 returns c =
-    let a = c.args in
-    let b = c.child_bit-bit in
+    let v = c.args.v in
+    let h : v.depth + stride ≤ v.len = omega (arith, c.if-v-lt-STRIDE.false, v.in_tree.from) in
+    let b = c.rest_child-bit in
     let t = c.has_child_bit in
-    next_none a.lim a.key a.len a.depth a.x (omega (arith, c.if-len-depth-lt-STRIDE.false, c.requires.from)) b.result b.ensures t.result t.ensures c.if-has_child_bit.false
+    let w = c.children_within in
+    let s = c.child_slot in
+    next_down c.args.lim v.key v.len v.depth c.args.x h b.result b.ensures t.result t.ensures
+    c.if-not-has_child_bit.false w.result w.ensures c.if-not-children_within.false s.result s.ensures

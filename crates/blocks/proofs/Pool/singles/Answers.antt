@@ -1,16 +1,28 @@
 -- `blocks::Pool::singles` meets its contract: what is left to ask gives the number of the whole. Assumes nothing.
-use mathlib.Core.Path.{refl}
+use native.Mathlib.Omega.{arith}
+use Rattle.std.proofs.lemmas.Result.{err_from_is_err_and}
+use Rattle.refusals.specs.Numbers.{number_of}
+use Rattle.refusals.proofs.Numbers.{number_some}
 use Rattle.blocks.proofs.Ways.{singles_stop, singles_on, singles_end}
 use Rattle.blocks.proofs.Pool.singles.Goals as goal
 
-pub loop-left-init : goal.loop-left-init
-loop-left-init c = refl
+pub returns-in_err-ask_found : goal.returns-in_err-ask_found
+returns-in_err-ask_found g c =
+    let top = g.K.Kind.WIDEST in
+    let a = c.args in
+    let i = c.loop in
+    let r = c.in_err-ask_found.field-0.0 in
+    let p = err_from_is_err_and c.from_residual.result c.from_residual.ensures.1 in
+    rw (p.1, p.2) (singles_stop top a.lim a.list.now _ a.n i.counter i.p i.first (number_of r) (omega arith) c.in_err-ask_found.ensures (number_some r) i.invariant)
 
-pub returns-then-a-ne0 : goal.returns-then-a-ne0
-returns-then-a-ne0 c = singles_stop c.args.top c.args.lim c.args.list.now _ c.loop-left.left c.loop-left.p c.loop-left.first c.ask_found-a.result c.loop-left-test.true c.ask_found-a.ensures c.if-a-ne0.true c.loop-left.invariant
-
-pub loop-left-preserved : goal.loop-left-preserved
-loop-left-preserved c = singles_on c.args.top c.args.lim c.args.list.now _ c.loop-left.left c.loop-left.p c.loop-left.first c.ask_found-a.result c.less-p.result c.loop-left-test.true c.ask_found-a.ensures c.if-a-ne0.false c.less-p.ensures c.loop-left.invariant
+pub loop-preserved : goal.loop-preserved
+loop-preserved g c =
+    let a = c.args in
+    let i = c.loop in
+    singles_on g.K.Kind.WIDEST a.lim a.list.now _ a.n i.counter i.p i.first c.less-p.result (omega arith) c.in_ok-ask_found.ensures c.less-p.ensures i.invariant
 
 pub returns : goal.returns
-returns c = singles_end c.args.top c.args.lim c.args.list.now _ c.loop-left.left c.loop-left.p c.loop-left.first c.loop-left-test.false c.loop-left.invariant
+returns g c =
+    let a = c.args in
+    let i = c.loop in
+    singles_end g.K.Kind.WIDEST a.lim a.list.now _ a.n i.counter i.p i.first (omega arith) i.invariant

@@ -1,10 +1,9 @@
 -- `blocks::Pool::singles` meets its contract: what is left to ask gives the number of the whole. Assumes nothing.
 use mathlib.Core.Path.{◌≡◌}
+use Prim.Native.Nat.{◌-◌}
 use Rattle.blocks.specs.Asks.{singles_found}
 use Rattle.blocks.proofs.Pool.singles.Given as goal
 
-abbrev pub invariant-loop-left : goal.invariant-loop-left
-invariant-loop-left l = singles_found l.left l.p l.top l.lim l.list l.first ≡ singles_found l.n l.initial.p l.top l.lim l.list l.spare
-
-abbrev pub decreases-loop-left : goal.decreases-loop-left
-decreases-loop-left l = l.left
+abbrev pub invariant-loop : goal.invariant-loop
+invariant-loop g l =
+    singles_found (l.n - l.counter) l.p g.K.Kind.WIDEST l.lim l.list l.first ≡ singles_found l.n l.initial.p g.K.Kind.WIDEST l.lim l.list l.spare

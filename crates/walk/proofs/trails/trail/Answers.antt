@@ -1,80 +1,74 @@
 -- `walk::trails::trail` meets its contract. The loop's invariant: the walk stands in the tree at its level, and what is left of it gives the whole trail.
 -- The measure falls with the depth. Assumes nothing.
-use mathlib.Core.Path.{refl, ◌∙◌}
+use mathlib.Core.Path.{◌≡◌, sym, ◌∙◌}
+use mathlib.Core.List.{List}
+use Prim.Native.Nat.{ℕ}
 use native.Mathlib.Omega.{arith}
-use lib.ListN.{length}
-use Rattle.walk.proofs.Turns.{in_slice, at_root, stands, nearer, trail_no_root, trail_root, trail_unsound, trail_broken, trail_end, trail_down}
+use Rattle.std.proofs.Common.{rules}
+use Rattle.std.proofs.lemmas.Result.{err_from_is_err_and}
+use lib.ListN.{set}
+use Rattle.std.proofs.lemmas.List.{map-set}
+use Rattle.node.specs.declared.MultiBitNode.{MultiBitNode}
+use Rattle.walk.specs.declared.Passed.{Passed}
+use Rattle.walk.specs.Passages.{passed_as, places_of, nodes_of}
+use Rattle.walk.proofs.Turns.{at_root, stands, deeper, trail_no_root, trail_root, trail_unsound, trail_refused, trail_end, trail_down}
 use Rattle.walk.proofs.trails.trail.Goals as goal
 
+-- one step more is one position more and one node more
+more_places : (l : List Passed) (i at : ℕ) (x : MultiBitNode) → places_of (set l i (passed_as at x)) ≡ set (places_of l) i at
+more_places l i at x = map-set (λ s. s.at) l i (passed_as at x)
+
+more_nodes : (l : List Passed) (i at : ℕ) (x : MultiBitNode) → nodes_of (set l i (passed_as at x)) ≡ set (nodes_of l) i x
+more_nodes l i at x = map-set (λ s. s.node) l i (passed_as at x)
+
 pub returns-then-lim-eq0 : goal.returns-then-lim-eq0
-returns-then-lim-eq0 c = trail_no_root c.args.nodes.now c.args.lim c.args.key c.args.len c.empty-passed.result c.empty-passed.ensures c.if-lim-eq0.true
-
-pub loop-x-init : goal.loop-x-init
-loop-x-init c =
+returns-then-lim-eq0 c =
     let a = c.args in
-    let n = c.if-lim-eq0 in
-    (at_root a.lim a.len c.requires.0 n.false, refl, trail_root a.nodes.now a.lim a.key a.len c.empty-passed.result c.empty-passed.ensures n.false)
+    trail_no_root a.nodes.now a.lim a.key a.len c.if-lim-eq0.true
 
-pub load-x-requires : goal.load-x-requires
-load-x-requires c = in_slice (length c.args.nodes.now) c.loop-x.invariant.0 c.requires.1
-
-pub bounds-places-level : goal.bounds-places-level
-bounds-places-level c = let v = c.loop-x.invariant.0.tree in let u = v.from in let l = v.within in omega (arith, c.loop-x.invariant.1)
-
-pub bounds-passed-level : goal.bounds-passed-level
-bounds-passed-level c = let v = c.loop-x.invariant.0.tree in let u = v.from in let l = v.within in omega (arith, c.loop-x.invariant.1)
+pub loop-v-init : goal.loop-v-init
+loop-v-init c =
+    let a = c.args in
+    let e = c.root-v.ensures in
+    let f = c.if-lim-eq0.false in
+    rw (e.0, e.1, e.2) (at_root a.lim a.len c.requires.0 f, omega arith, trail_root a.nodes.now a.lim a.key a.len c.empty.result c.empty.ensures f)
 
 pub returns-then-not-sound : goal.returns-then-not-sound
 returns-then-not-sound c =
-    let a = c.args in
-    let w = c.loop-x in
-    let x = c.load-x in
-    let s = c.sound in
-    let f = c.if-not-sound in
-    trail_unsound a.nodes.now a.key w.invariant.0 x.ensures s.ensures w.places w.passed w.invariant.1 f.true ∙ w.invariant.2
+    let w = c.loop-v in
+    trail_unsound c.args.nodes.now w.v.key w.invariant.0 c.load-x.ensures (places_of w.steps) (nodes_of w.steps) w.invariant.1 (sym c.sound.ensures ∙ c.if-not-sound.true)
+    ∙ w.invariant.2
 
-pub next_step-requires : goal.next_step-requires
-next_step-requires c = c.loop-x.invariant.0.tree
+pub returns-in_err-child : goal.returns-in_err-child
+returns-in_err-child c =
+    let w = c.loop-v in
+    let refused = trail_refused c.args.nodes.now w.v.key w.invariant.0 c.load-x.ensures (places_of w.steps) (nodes_of w.steps) w.invariant.1 (sym c.sound.ensures ∙ c.if-not-sound.false) in
+    let p = err_from_is_err_and c.from_residual.result c.from_residual.ensures.1 in
+    rw (p.1, p.2) (refused c.next_step.ensures _ c.in_err-child.was ∙ w.invariant.2)
 
-pub overflow_add-depth : goal.overflow_add-depth
-overflow_add-depth c = let v = c.loop-x.invariant.0.tree in let u = v.from in let l = v.within in omega arith
+pub below-v-requires : goal.below-v-requires
+below-v-requires c =
+    let w = c.loop-v in
+    deeper w.v.key c.load-x.result c.in-Some.child w.invariant.0 c.next_step.ensures (search rules)
 
-pub loop-x-smaller : goal.loop-x-smaller
-loop-x-smaller c =
-    let a = c.args in
-    let w = c.loop-x in
-    let x = c.load-x in
-    let t = c.next_step in
-    let g = c.in-Down in
-    nearer a.key x.result g.next w.invariant.0 t.ensures (search)
+pub loop-v-preserved : goal.loop-v-preserved
+loop-v-preserved c =
+    let w = c.loop-v in
+    let next = c.in-Some.child in
+    let e = c.below-v.ensures in
+    let down =
+    trail_down c.args.nodes.now w.v.key w.invariant.0 c.load-x.ensures (places_of w.steps) (nodes_of w.steps) w.invariant.1 (sym c.sound.ensures ∙ c.if-not-sound.false)
+    c.next_step.ensures next (search rules)
+    in
+    rw (e.0, e.1, e.2, more_places w.steps w.level w.at c.load-x.result, more_nodes w.steps w.level w.at c.load-x.result) (
+      stands w.v.key c.load-x.result next w.invariant.0 c.next_step.ensures (search rules),
+      omega (arith, w.invariant.1),
+      down ∙ w.invariant.2,
+    )
 
-pub loop-x-preserved : goal.loop-x-preserved
-loop-x-preserved c =
-    let a = c.args in
-    let w = c.loop-x in
-    let x = c.load-x in
-    let s = c.sound in
-    let f = c.if-not-sound in
-    let t = c.next_step in
-    let g = c.in-Down in
-    (stands a.key x.result g.next w.invariant.0 t.ensures (search), omega (arith, w.invariant.1), trail_down a.nodes.now a.key w.invariant.0 x.ensures s.ensures w.places w.passed w.invariant.1 f.false t.ensures g.next (search) ∙ w.invariant.2)
-
-pub returns-in-End : goal.returns-in-End
-returns-in-End c =
-    let a = c.args in
-    let w = c.loop-x in
-    let x = c.load-x in
-    let s = c.sound in
-    let f = c.if-not-sound in
-    let t = c.next_step in
-    trail_end a.nodes.now a.key w.invariant.0 x.ensures s.ensures w.places w.passed w.invariant.1 f.false t.ensures (search) ∙ w.invariant.2
-
-pub returns-in-Broken : goal.returns-in-Broken
-returns-in-Broken c =
-    let a = c.args in
-    let w = c.loop-x in
-    let x = c.load-x in
-    let s = c.sound in
-    let f = c.if-not-sound in
-    let t = c.next_step in
-    trail_broken a.nodes.now a.key w.invariant.0 x.ensures s.ensures w.places w.passed w.invariant.1 f.false t.ensures (search) ∙ w.invariant.2
+pub returns-in-None : goal.returns-in-None
+returns-in-None c =
+    let w = c.loop-v in
+    let ends = trail_end c.args.nodes.now w.v.key w.invariant.0 c.load-x.ensures (places_of w.steps) (nodes_of w.steps) w.invariant.1 (sym c.sound.ensures ∙ c.if-not-sound.false) in
+    rw (more_places w.steps w.level w.at c.load-x.result, more_nodes w.steps w.level w.at c.load-x.result)
+    (ends c.next_step.ensures (search rules) ∙ w.invariant.2)

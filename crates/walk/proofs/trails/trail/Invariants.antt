@@ -3,13 +3,15 @@
 use mathlib.Core.Path.{◌≡◌}
 use Prim.Native.Nat.{◌-◌, ◌/◌}
 use Rattle.tiers.specs.Tiers.{stride}
+use Rattle.walk.specs.Passages.{places_of, nodes_of}
 use Rattle.walk.specs.Trails.{trail_from, trail_of}
 use Rattle.walk.proofs.Turns.{left, Standing}
 use Rattle.walk.proofs.trails.trail.Given as goal
 
-abbrev pub invariant-loop-x : goal.invariant-loop-x
-invariant-loop-x l =
-    Standing l.lim l.len l.at l.depth × (l.level ≡ l.depth / stride) × (trail_from (left l.depth) l.nodes l.lim l.key l.len l.at l.depth l.places l.passed ≡ trail_of l.nodes l.lim l.key l.len)
+abbrev pub invariant-loop-v : goal.invariant-loop-v
+invariant-loop-v l =
+    Standing l.lim l.v.len l.at l.v.depth × (l.level ≡ l.v.depth / stride)
+    × (trail_from (left l.v.depth) l.nodes l.lim l.v.key l.v.len l.at l.v.depth (places_of l.steps) (nodes_of l.steps) ≡ trail_of l.nodes l.lim l.key l.len)
 
-abbrev pub decreases-loop-x : goal.decreases-loop-x
-decreases-loop-x l = 35 - l.depth
+abbrev pub decreases-loop-v : goal.decreases-loop-v
+decreases-loop-v l = 35 - l.v.depth

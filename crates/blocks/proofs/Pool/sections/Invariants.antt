@@ -1,0 +1,8 @@
+-- `blocks::Pool::sections` meets its contract: the sections that were passed hold their counts. Assumes nothing.
+use mathlib.Core.Path.{◌≡◌}
+use mathlib.Core.Bool.{true}
+use Rattle.blocks.specs.Shape.{sections_of}
+use Rattle.blocks.proofs.Pool.sections.Given as goal
+
+abbrev pub invariant-loop-t : goal.invariant-loop-t
+invariant-loop-t g l = sections_of l.t g.K.Kind.WIDEST l.self.size l.self.free ≡ true
