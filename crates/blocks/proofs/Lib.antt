@@ -6,3 +6,4 @@ pub mod Settled
 pub mod Spare
 pub mod Climb
 pub mod Ways
+pub mod Pinned

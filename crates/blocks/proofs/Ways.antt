@@ -46,6 +46,24 @@ unfolding move_ask_of move_found ask_found
 no_spare p top lim l old a b = refl
 
 -- ---- the free counts, tier by tier
+module _ (top size : ℕ) (f : List ℕ) (t s : ℕ) (b : Bool) (pos : 0 < top) (e : s ≡ spacing_of (spacings top) t) (g : b ≡ ltb size (get_or f t 0 * s)) where
+  some : 0 < s
+  some = rw e (kind_pos top t pos)
+
+  -- a count above its section decides
+  pub count_over : b ≡ true → sections_of (suc t) top size f ≡ false
+  unfolding sections_of section_length
+  count_over y =
+      let m : size / s < get_or f t 0 = (div-lt_iff_lt-mul some).1 (ltb-true _ _ (sym g ∙ y)) in
+      simp (← e, lt-leb _ _ m)
+
+  -- one that isn't leaves it to the tiers below
+  pub count_in : b ≡ false → sections_of (suc t) top size f ≡ sections_of t top size f
+  unfolding sections_of section_length
+  count_in n =
+      let m : get_or f t 0 ≤ size / s = (le-div_iff_mul-le some).1 (ltb-false _ _ (sym g ∙ n)) in
+      simp (← e, le-leb _ _ m)
+
 module _ (top size : ℕ) (f : List ℕ) where
   -- a section that doesn't hold its count decides
   sections_out : (n t : ℕ) → t < n → sections_of (suc t) top size f ≡ false → sections_of n top size f ≡ false
@@ -61,24 +79,12 @@ module _ (top size : ℕ) (f : List ℕ) where
     entry : get_or table t 0 ≡ spacing_of (spacings top) t
     entry = table_entry table (spacings top) t t 0 same refl h
 
-    some : 0 < spacing_of (spacings top) t
-    some = kind_pos top t pos
+    -- so where the table's entry is tested
+    pub sections_over : b ≡ true → sections_of 7 top size f ≡ false
+    sections_over y = sections_out 7 t h (count_over top size f t _ b pos entry g y)
 
-    -- a count above its section
-    pub count_over : b ≡ true → sections_of 7 top size f ≡ false
-    unfolding sections_of section_length
-    count_over y =
-        let o : size < get_or f t 0 * spacing_of (spacings top) t = rw entry at (ltb-true _ _ (sym g ∙ y)) in
-        let m : size / spacing_of (spacings top) t < get_or f t 0 = (div-lt_iff_lt-mul some).1 o in
-        sections_out 7 t h (simp (lt-leb _ _ m))
-
-    -- one that isn't, behind sections that hold theirs
-    pub count_in : b ≡ false → sections_of t top size f ≡ true → sections_of (t + 1) top size f ≡ true
-    unfolding sections_of section_length
-    count_in n v =
-        let o : get_or f t 0 * spacing_of (spacings top) t ≤ size = rw entry at (ltb-false _ _ (sym g ∙ n)) in
-        let m : get_or f t 0 ≤ size / spacing_of (spacings top) t = (le-div_iff_mul-le some).1 o in
-        rw add-one (simp (le-leb _ _ m, v))
+    pub sections_in : b ≡ false → sections_of t top size f ≡ true → sections_of (t + 1) top size f ≡ true
+    sections_in n v = rw add-one (count_in top size f t _ b pos entry g n ∙ v)
 
 -- ---- a turn of `singles`' loop: x is what the whole loop gives
 module _ (top lim : ℕ) (l : List ℕ) (x : ℕ) where

@@ -1,5 +1,6 @@
 -- Laws of spacings and of the tier of a count, over any list of spacings, so that each holds of both kinds. Assumes nothing.
 -- A premise `T (rising 0 kind)` or `T (within b kind)` is a test that computes: `tt` gives it for a kind's list.
+use Rattle.std.specs.Prelude.{Option, Some, None, MatchOption}
 use mathlib.Core.Path.{◌≡◌, refl, sym, ap, ◌∙◌}
 use mathlib.Core.Bool.{Bool, true, cond, ◌&&◌}
 use mathlib.Core.List.{List, [], ◌∷◌}
@@ -8,7 +9,7 @@ use native.Mathlib.Nat.{le_refl, le_trans, lt_of_le_of_lt, lt_trans, le_of_suc-l
 use native.Mathlib.Decide.{dec_lt}
 use native.Mathlib.Omega.{arith}
 use borrow.Author.Tests.{le-leb, lt-leb}
-use lib.Dec.{T, leb, ltb, ltb→lt, lit<, lit≤}
+use lib.Dec.{T, leb, ltb, leb→le, ltb→lt, lit<, lit≤}
 use lib.Ieee.Fits.{and_l, and_r}
 use lib.ListN.{length, get_or, get_or-append}
 use Rattle.tiers.specs.Tiers.{spacings, data_spacings, child_spacings, spacing_of, tier_of, Smallest}
@@ -29,6 +30,11 @@ unfolding spacing_of
 same_spacing a b t h =
     let common : List ℕ = 1 ∷ 2 ∷ 4 ∷ 8 ∷ 16 ∷ 24 ∷ [] in
     get_or-append common (a ∷ []) 1 t h ∙ sym (get_or-append common (b ∷ []) 1 t h)
+
+-- the last tier's spacing is the kind's own
+pub last_spacing : (top : ℕ) → spacing_of (spacings top) 6 ≡ top
+unfolding spacing_of
+last_spacing top = refl
 
 -- a kind whose last spacing isn't 0 has none that is
 pub kind_pos : (top t : ℕ) → 0 < top → 1 ≤ spacing_of (spacings top) t
@@ -69,6 +75,13 @@ spacing_pos kind r t = go 0 kind r t
     go a [] r t = le_refl 1
     go a (s ∷ ss) r zero = lt_of_le_of_lt zero-le (ltb→lt a s (and_l (ltb a s) (rising s ss) r))
     go a (s ∷ ss) r (suc t) = go s ss (and_r (ltb a s) (rising s ss) r) t
+
+-- a spacing is at most the bound of its list
+pub spacing_le : (b : ℕ) (kind : List ℕ) → T (within b kind) → (t : ℕ) → spacing_of kind t ≤ b
+unfolding spacing_of
+spacing_le b [] w t = leb→le 1 b w
+spacing_le b (s ∷ kind) w zero = leb→le s b (and_l (leb s b) (within b kind) w)
+spacing_le b (s ∷ kind) w (suc t) = spacing_le b kind (and_r (leb s b) (within b kind) w) t
 
 -- a higher tier has a larger spacing
 pub spacing_rises : (kind : List ℕ) → T (rising 0 kind) → (u t : ℕ) → u < t → t < length kind → spacing_of kind u < spacing_of kind t
@@ -222,3 +235,10 @@ pub tier_full : (kind : List ℕ) → T (rising 0 kind) → (t : ℕ) → t < le
 tier_full kind r t h =
     smallest_tier kind r (spacing_of kind t) t
     (record { there = h; holds = le_refl (spacing_of kind t); least = λ u l. spacing_rises kind r u t l h })
+
+-- any two outcomes that `Tier::new` may give are equal
+pub new_same : (n : ℕ) (r s : Option ℕ) → MatchOption r (7 ≤ n) (λ t. (t ≡ n) × (n < 7)) → MatchOption s (7 ≤ n) (λ t. (t ≡ n) × (n < 7)) → r ≡ s
+new_same n (Some a) (Some b) p q = ap Some (p.0 ∙ sym q.0)
+new_same n (Some a) None p q = let h = p.1 in absurd (omega arith)
+new_same n None (Some b) p q = let h = q.1 in absurd (omega arith)
+new_same n None None p q = refl

@@ -128,6 +128,25 @@ pub fn tier_of(count: u32) -> Tier
     Tier::LAST
 }
 
+// The spacings of the kind with the last spacing `top`, tier by tier: of a kind that is no type, being chosen as the program runs, say.
+#[inline(always)]
+pub fn spacings_of(top: u32) -> [u32; 7]
+    ensures { result ≡ spacings top }
+{
+    let mut all = ChildPool::SPACINGS;
+    all[6] = top;
+    all
+}
+
+// The items of a block of the tier, of that kind.
+#[inline(always)]
+#[tactic(auto, unfolding(crate::specs::Tiers::spacing_of))]
+pub fn spacing_of(top: u32, tier: Tier) -> u32
+    ensures { result ≡ spacing_of (spacings top) tier }
+{
+    spacings_of(top)[tier.number()]
+}
+
 // Where a tier's section begins, one place for every kind: no section stands behind the last.
 // Not a loop: it proved, but no edit is to take more instructions than before, and with it a move of a block takes 25 more, since its copies
 // of the pool are laid out before a loop is unrolled.

@@ -5,4 +5,4 @@ use Rattle.blocks.specs.Shape.{sections_of}
 use Rattle.blocks.proofs.Pool.sections.Given as goal
 
 abbrev pub invariant-loop-t : goal.invariant-loop-t
-invariant-loop-t g l = sections_of l.t g.K.Kind.WIDEST l.self.size l.self.free ≡ true
+invariant-loop-t l = sections_of l.t l.top l.self.size l.self.free ≡ true

@@ -6,6 +6,6 @@ use Rattle.blocks.proofs.taking.has_room.Goals as goal
 
 pub returns : goal.returns
 unfolding section_length
-returns g c =
-    let pos = kind_pos g.K.Kind.WIDEST c.args.tier g.met.K.Kind.some_wide in
-    rw (c.wide.ensures, c.wide-2.ensures, c.wide-3.ensures, c.spacing.ensures) (product_room c.args.size c.args.n _ pos)
+returns c =
+    let pos = kind_pos c.args.top c.args.tier c.requires in
+    rw (c.wide.ensures, c.wide-2.ensures, c.wide-3.ensures, c.spacing_of.ensures) (product_room c.args.size c.args.n _ pos)

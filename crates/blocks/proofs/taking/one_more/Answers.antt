@@ -7,5 +7,5 @@ use Rattle.tiers.proofs.Sections.{section_le}
 use Rattle.blocks.proofs.taking.one_more.Goals as goal
 
 pub overflow_add-result : goal.overflow_add-result
-overflow_add-result g c =
-    omega (arith, ltb-true _ _ (sym c.has_room.ensures ∙ c.if-has_room.true), section_le (spacings g.K.Kind.WIDEST) c.args.size c.args.tier)
+overflow_add-result c =
+    omega (arith, ltb-true _ _ (sym c.has_room.ensures ∙ c.if-has_room.true), section_le (spacings c.args.top) c.args.size c.args.tier)

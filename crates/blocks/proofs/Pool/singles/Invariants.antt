@@ -1,9 +1,0 @@
--- `blocks::Pool::singles` meets its contract: what is left to ask gives the number of the whole. Assumes nothing.
-use mathlib.Core.Path.{◌≡◌}
-use Prim.Native.Nat.{◌-◌}
-use Rattle.blocks.specs.Asks.{singles_found}
-use Rattle.blocks.proofs.Pool.singles.Given as goal
-
-abbrev pub invariant-loop : goal.invariant-loop
-invariant-loop g l =
-    singles_found (l.n - l.counter) l.p g.K.Kind.WIDEST l.lim l.list l.first ≡ singles_found l.n l.initial.p g.K.Kind.WIDEST l.lim l.list l.spare
