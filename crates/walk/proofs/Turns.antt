@@ -2,7 +2,7 @@
 use mathlib.Core.Path.{◌≡◌, refl, sym, ap, ◌∙◌}
 use mathlib.Core.Bool.{Bool, true, false, cond}
 use mathlib.Core.List.{List, [], ◌∷◌}
-use Prim.Native.Nat.{ℕ, suc, ◌+◌, ◌-◌, ◌/◌, ◌^◌, ◌≤◌, ◌<◌}
+use Prim.Native.Nat.{ℕ, zero, suc, ◌+◌, ◌-◌, ◌/◌, ◌^◌, ◌≤◌, ◌<◌}
 use native.Mathlib.Omega.{arith}
 use borrow.Author.Tests.{lt-ltb, le-ltb}
 use lib.ListN.{set}
@@ -12,13 +12,14 @@ use Rattle.node.specs.declared.MultiBitNode.{MultiBitNode}
 use Rattle.node.specs.Masks.{InTree}
 use Rattle.node.specs.Nodes.{empty_node}
 use Rattle.store.specs.Words.{node_at}
-use Rattle.std.specs.Prelude.{Option, Some, None, Result, Ok, Err}
+use Rattle.std.specs.Prelude.{Option, Some, None, Result, Ok, Err, ltb}
 use Rattle.refusals.specs.declared.Refusal.{Refusal}
 use Rattle.refusals.specs.declared.Refusal.TheVariants.{Broken}
 use Rattle.walk.specs.declared.Rule.{Rule}
 use Rattle.walk.specs.Steps.{sound_of, data_whole, children_whole, step_of}
 use Rattle.walk.specs.Lookups.{Way, seen_at, walk_step, walk_from, walk_of}
-use Rattle.walk.specs.Trails.{trail_as, trail_step, trail_from, no_places, trail_of}
+use Rattle.walk.specs.declared.Trail.{Trail}
+use Rattle.walk.specs.Trails.{trail_as, trail_step, trail_from, no_places, no_nodes, trail_of, route_as, route_step, route_from, route_of}
 use Rattle.walk.proofs.Steps.{descent, broken_alone}
 use Rattle.walk.proofs.Halves.{data_fails, children_fail, both_hold, down_whole, either_way}
 
@@ -77,6 +78,16 @@ module _ (l : List ℕ) (lim key len : ℕ) where
   pub trail_root : (e : MultiBitNode) → e ≡ empty_node → (lim ≡ 0 → ⊥) → trail_from 7 l lim key len 0 0 no_places (seven e) ≡ trail_of l lim key len
   unfolding trail_of
   trail_root e ee h = rw ee (simp (lt-ltb 0 lim (omega arith)))
+
+  -- no root for a route, whose steps are unread
+  pub route_no_root : (e : MultiBitNode) → e ≡ empty_node → lim ≡ 0 → route_as (Err Broken) 0 no_places (seven e) ≡ route_of l lim key len
+  unfolding route_of
+  route_no_root e ee z = rw ee (simp (le-ltb 0 lim (omega arith)))
+
+  -- its root
+  pub route_root : (e : MultiBitNode) → e ≡ empty_node → (lim ≡ 0 → ⊥) → route_from 7 l lim key len 0 0 no_places (seven e) ≡ route_of l lim key len
+  unfolding route_of
+  route_root e ee h = rw ee (simp (lt-ltb 0 lim (omega arith)))
 
 module _ (l : List ℕ) (key : ℕ) {lim len at d : ℕ} (v : Standing lim len at d) {x : MultiBitNode} (ex : x ≡ node_at l at) where
   -- ---- a lookup
@@ -181,3 +192,70 @@ module _ (l : List ℕ) (key : ℕ) {lim len at d : ℕ} (v : Standing lim len a
           → trail_from (left (d + stride)) l lim key len next (d + stride) (set p i at) (set n i x) ≡ trail_from (left d) l lim key len at d p n
       unfolding trail_step
       trail_down next e = sym (trail_turn ∙ simp e)
+
+  -- ---- a route
+
+  module _ (p : List ℕ) (n : List MultiBitNode) {i : ℕ} (ei : i ≡ d / stride) where
+    -- a node that isn't whole, which was read
+    pub route_unsound : sound_of x ≡ false → route_as (Err Broken) d (set p i at) (set n i x) ≡ route_from (left d) l lim key len at d p n
+    unfolding route_from
+    route_unsound f = rw (ei, one_left v) (simp (← ex, f))
+
+    module _ (f : sound_of x ≡ true) {t : Result (Option ℕ) Refusal} (et : t ≡ step_of lim key len d x) where
+      -- the turn of a node that is whole
+      route_turn : route_from (left d) l lim key len at d p n
+          ≡ route_step t d (set p i at) (set n i x) (λ next. route_from (left (d + stride)) l lim key len next (d + stride) (set p i at) (set n i x))
+      unfolding route_from
+      route_turn = rw (ei, one_left v) (simp (← ex, f, ← et))
+
+      -- a step that leaves what is issued
+      pub route_refused : (r : Refusal) → t ≡ Err r → route_as (Err r) d (set p i at) (set n i x) ≡ route_from (left d) l lim key len at d p n
+      unfolding route_step
+      route_refused r e = sym (route_turn ∙ simp e)
+
+      -- the end of the path
+      pub route_end : t ≡ Ok None → route_as (Ok tt) d (set p i at) (set n i x) ≡ route_from (left d) l lim key len at d p n
+      unfolding route_step
+      route_end e = sym (route_turn ∙ simp e)
+
+      -- on to the child
+      pub route_down : (next : ℕ) → t ≡ Ok (Some next)
+          → route_from (left (d + stride)) l lim key len next (d + stride) (set p i at) (set n i x) ≡ route_from (left d) l lim key len at d p n
+      unfolding route_step
+      route_down next e = sym (route_turn ∙ simp e)
+
+-- ---- the trail is the route's, where nothing is refused
+
+-- the trail of a walk that ended so
+abbrev pub kept : Result (Unit {0}) Refusal → Trail → Result Trail Refusal
+kept (Ok x) t = Ok t
+kept (Err r) t = Err r
+
+trail_kept_from : (fuel : ℕ) (l : List ℕ) (lim key len at d : ℕ) (p : List ℕ) (n : List MultiBitNode)
+    → kept (route_from fuel l lim key len at d p n).done (route_from fuel l lim key len at d p n).trail ≡ trail_from fuel l lim key len at d p n
+unfolding route_from trail_from route_step trail_step
+trail_kept_from zero l lim key len at d p n = refl
+trail_kept_from (suc fuel) l lim key len at d p n =
+    let x = node_at l at in
+    go (sound_of x) (step_of lim key len d x) (set p (d / stride) at) (set n (d / stride) x) (λ next p' n'. trail_kept_from fuel l lim key len next (d + stride) p' n')
+  where
+    go : (s : Bool) (t : Result (Option ℕ) Refusal) (p' : List ℕ) (n' : List MultiBitNode)
+        → ((next : ℕ) (p' : List ℕ) (n' : List MultiBitNode)
+        → kept (route_from fuel l lim key len next (d + stride) p' n').done (route_from fuel l lim key len next (d + stride) p' n').trail
+        ≡ trail_from fuel l lim key len next (d + stride) p' n')
+        → (let r = cond s (route_step t d p' n' (λ next. route_from fuel l lim key len next (d + stride) p' n')) (route_as (Err Broken) d p' n') in kept r.done r.trail)
+        ≡ cond s (trail_step t d p' n' (λ next. trail_from fuel l lim key len next (d + stride) p' n')) (Err Broken)
+    go false t p' n' on = refl
+    go true (Err r) p' n' on = refl
+    go true (Ok None) p' n' on = refl
+    go true (Ok (Some next)) p' n' on = on next p' n'
+
+pub trail_kept : (l : List ℕ) (lim key len : ℕ) → kept (route_of l lim key len).done (route_of l lim key len).trail ≡ trail_of l lim key len
+unfolding route_of trail_of
+trail_kept l lim key len = go (ltb 0 lim)
+  where
+    go : (b : Bool)
+        → (let r = cond b (route_from 7 l lim key len 0 0 no_places no_nodes) (route_as (Err Broken) 0 no_places no_nodes) in kept r.done r.trail)
+        ≡ cond b (trail_from 7 l lim key len 0 0 no_places no_nodes) (Err Broken)
+    go false = refl
+    go true = trail_kept_from 7 l lim key len 0 0 no_places no_nodes

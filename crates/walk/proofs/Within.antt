@@ -2,33 +2,31 @@
 use mathlib.Core.Path.{◌≡◌, sym}
 use mathlib.Core.Bool.{true}
 use mathlib.Core.List.{List}
-use Prim.Native.Nat.{ℕ, zero, suc, ◌+◌, ◌≤◌, ◌<◌}
+use Prim.Native.Nat.{ℕ, ◌+◌, ◌≤◌, ◌<◌}
 use native.Mathlib.Omega.{arith}
 use borrow.Author.Tests.{le-leb, leb-true}
-use lib.Dec.{leb}
+use lib.Dec.{T, leb}
 use Rattle.bits.specs.Bits.{bit_at, count, set_below}
 use Rattle.bits.proofs.Slots.{below_le, below_strict}
-use Rattle.tiers.specs.Tiers.{spacings as kind, child_spacings, data_spacings, spacing_of, tier_of, Smallest}
-use Rattle.tiers.proofs.Tiers.{child_smallest, data_smallest}
+use Rattle.tiers.specs.Tiers.{child_top, data_top, child_spacings, data_spacings, spacing_of, tier_of, Smallest}
+use Rattle.tiers.proofs.Tiers.{within, spacing_le, child_smallest, data_smallest}
 use Rattle.walk.specs.Steps.{block_within, children_within, data_within}
 
--- no block of a kind is wider than its widest
-widest : (top t : ℕ) → 24 ≤ top → spacing_of (kind top) t ≤ top
-unfolding spacing_of
-widest top zero h = omega arith
-widest top (suc zero) h = omega arith
-widest top (suc (suc zero)) h = omega arith
-widest top (suc (suc (suc zero))) h = omega arith
-widest top (suc (suc (suc (suc zero)))) h = omega arith
-widest top (suc (suc (suc (suc (suc zero))))) h = omega arith
-widest top (suc (suc (suc (suc (suc (suc zero)))))) h = omega arith
-widest top (suc (suc (suc (suc (suc (suc (suc t))))))) h = omega arith
+-- no block of nodes, and no block of cells, is wider than the kind's widest
+pub children_widest : (t : ℕ) → spacing_of child_spacings t ≤ child_top
+children_widest = spacing_le child_top child_spacings tt
 
--- so where the widest block fits, every block does
-pub widest_fits : (top lim n start : ℕ) → 24 ≤ top → start + top ≤ lim → true ≡ block_within (kind top) lim n start
-widest_fits top lim n start h k = sym (le-leb (start + spacing_of (kind top) (tier_of (kind top) n)) lim (omega (arith, widest top (tier_of (kind top) n) h)))
+pub data_widest : (t : ℕ) → spacing_of data_spacings t ≤ data_top
+data_widest = spacing_le data_top data_spacings tt
 
 module _ (spacings : List ℕ) (lim n start : ℕ) where
+  -- where the widest block fits, every block does: by a bound of all spacings, or by a test of the list
+  pub bound_fits : (b : ℕ) → ((t : ℕ) → spacing_of spacings t ≤ b) → start + b ≤ lim → true ≡ block_within spacings lim n start
+  bound_fits b w h = sym (le-leb (start + spacing_of spacings (tier_of spacings n)) lim (omega (arith, w (tier_of spacings n))))
+
+  pub widest_fits : (b : ℕ) → T (within b spacings) → start + b ≤ lim → true ≡ block_within spacings lim n start
+  widest_fits b w h = bound_fits b (spacing_le b spacings w) h
+
   -- the items of a block below the mark stand below it
   pub item_below : Smallest spacings n (tier_of spacings n) → leb (start + spacing_of spacings (tier_of spacings n)) lim ≡ true → (i : ℕ) → i < n → start + i < lim
   item_below m h i k = omega (arith, leb-true (start + spacing_of spacings (tier_of spacings n)) lim h, m.holds)

@@ -4,11 +4,12 @@
 
 mod best;
 pub mod lookups;
+pub mod routes;
 pub mod trails;
 
-ghost use Rattle.std.specs.Prelude.{◌≡◌, Bool, ◌+◌, ◌*◌, ◌≤◌, eqb, length};
+ghost use Rattle.std.specs.Prelude.{◌≡◌, Bool, ℕ, ◌+◌, ◌*◌, ◌≤◌, eqb, length};
 ghost use Rattle.bits.specs.Bits.{count};
-ghost use Rattle.tiers.specs.Tiers.{spacings};
+ghost use Rattle.tiers.specs.Tiers.{spacings, spacing_of};
 ghost use Rattle.store.specs.Words.{node_at};
 ghost use Rattle.walk.specs.Steps.{agree, sound_of, data_whole, children_whole, block_within, children_within, data_within, step_of};
 
@@ -52,6 +53,13 @@ pub struct Passed {
 pub struct Trail {
     pub depth: u32,
     pub steps: [Passed; 7],
+}
+
+// How the walk of an edit ended, and its trail: as far as it was read, where it was refused.
+#[derive(Clone, Copy)]
+pub struct Route {
+    pub done: Result<(), Refusal>,
+    pub trail: Trail,
 }
 
 impl Model for Trail {
@@ -107,7 +115,7 @@ fn children_whole(x: MultiBitNode) -> bool
 
 // Does the block of a bitmap that starts here lie wholly below the mark? What the bitmap has is counted only near the mark.
 fn block_within<K: Kind>(lim: u32, bitmap: u32, start: u32) -> bool
-    requires { 24 ≤ K.WIDEST }
+    requires { (t : ℕ) → spacing_of (spacings K.WIDEST) t ≤ K.WIDEST }
     ensures { result ≡ block_within (spacings K.WIDEST) lim (count bitmap) start }
 {
     let begin = wide(start);
@@ -119,7 +127,7 @@ fn block_within<K: Kind>(lim: u32, bitmap: u32, start: u32) -> bool
 }
 
 // That of a child bitmap. (The definitions name both; each is one line over block_within.)
-#[tactic(auto, unfolding(crate::specs::Steps::children_within))]
+#[tactic(auto, using(crate::proofs::Within::children_widest), unfolding(crate::specs::Steps::children_within))]
 pub fn children_within(lim: u32, bitmap: u32, start: u32) -> bool
     ensures { result ≡ children_within lim (count bitmap) start }
 {
@@ -127,7 +135,7 @@ pub fn children_within(lim: u32, bitmap: u32, start: u32) -> bool
 }
 
 // That of a data bitmap.
-#[tactic(auto, unfolding(crate::specs::Steps::data_within))]
+#[tactic(auto, using(crate::proofs::Within::data_widest), unfolding(crate::specs::Steps::data_within))]
 pub fn data_within(lim: u32, bitmap: u32, start: u32) -> bool
     ensures { result ≡ data_within lim (count bitmap) start }
 {

@@ -7,7 +7,7 @@ ghost use Rattle.walk.specs.declared.Rule.{Rule};
 ghost use Rattle.walk.specs.Steps.{children_whole};
 ghost use Rattle.walk.specs.Lookups.{Way, rule_in, rule_of, seen_at, longest_way, shortest_way, exact_way, walk_of, longest_sight, shortest_sight, exact_sight};
 
-use crate::best::Best;
+pub use crate::best::Best;
 use crate::{Rule, Sight};
 use bits::Bit;
 use node::MultiBitNode;
