@@ -50,13 +50,22 @@ pub fn is_sane(p: Pool, q: Pool, rules: u32) -> bool
     p.sane::<ChildPool>() && q.sane::<DataPool>() && rules <= q.size
 }
 
-// What every call tests after its slices: the length, then marks and counts.
-fn begin(p: Pool, q: Pool, rules: u32, len: u32) -> Result<(), Refusal>
-    ensures { ended result ≡ cond (leb len width) (cond (sane_state p q rules) 0 5) 1 }
+// No length is above 32.
+fn fits(len: u32) -> Result<(), Refusal>
+    ensures { ended result ≡ cond (leb len width) 0 1 }
 {
     if 32 < len {
         Err(Refusal::TooLong)
-    } else if is_sane(p, q, rules) {
+    } else {
+        Ok(())
+    }
+}
+
+// The first step of every call: marks and counts.
+fn first_step(p: Pool, q: Pool, rules: u32) -> Result<(), Refusal>
+    ensures { ended result ≡ cond (sane_state p q rules) 0 5 }
+{
+    if is_sane(p, q, rules) {
         Ok(())
     } else {
         Err(Refusal::Broken)
@@ -76,11 +85,11 @@ pub fn lookup_first(
 ) -> Result<(), Refusal>
     ensures { ended result ≡ lookup_first p q rules nodes cells len }
 {
-    if lookup_shaped(p.size, q.size, nodes, cells) {
-        begin(p, q, rules, len)
-    } else {
-        Err(Refusal::WrongSlice)
+    if !lookup_shaped(p.size, q.size, nodes, cells) {
+        return Err(Refusal::WrongSlice);
     }
+    fits(len)?;
+    first_step(p, q, rules)
 }
 
 // Why an edit is refused before its walk, if it is.
@@ -98,11 +107,11 @@ pub fn edit_first(
 ) -> Result<(), Refusal>
     ensures { ended result ≡ edit_first p q rules nodes cells node_free cell_free key len }
 {
-    if edit_shaped(p.size, q.size, nodes, cells, node_free, cell_free) {
-        begin(p, q, rules, len)
-    } else {
-        Err(Refusal::WrongSlice)
+    if !edit_shaped(p.size, q.size, nodes, cells, node_free, cell_free) {
+        return Err(Refusal::WrongSlice);
     }
+    fits(len)?;
+    first_step(p, q, rules)
 }
 
 // The first n nodes become empty.
