@@ -31,8 +31,8 @@ pub struct BitPrefix {
     pub level: u32,
 }
 
-// The elements of a node in their order.
-const LEX_ORDER: [LexElem; 63] = [
+// The elements of a node in their order. (This table and the three below are static: a constant one is laid out anew at each read.)
+static LEX_ORDER: [LexElem; 63] = [
     LexElem::Data(0),
     LexElem::Data(1),
     LexElem::Data(3),
@@ -99,7 +99,7 @@ const LEX_ORDER: [LexElem; 63] = [
 ];
 
 // Data mask and child mask of each data bit. (Pairs, a line each: entries with the fields' names would take four lines each.)
-const LEX_AFTER_DATA: [(u32, u32); 31] = [
+static LEX_AFTER_DATA: [(u32, u32); 31] = [
     (2147483647, 4294967295),
     (2147483646, 4294967295),
     (2139125860, 4294901760),
@@ -134,7 +134,7 @@ const LEX_AFTER_DATA: [(u32, u32); 31] = [
 ];
 
 // Data mask and child mask of each child.
-const LEX_AFTER_CHILD: [(u32, u32); 32] = [
+static LEX_AFTER_CHILD: [(u32, u32); 32] = [
     (2147450740, 4294967294),
     (2147450740, 4294967292),
     (2147385204, 4294967288),
@@ -170,7 +170,7 @@ const LEX_AFTER_CHILD: [(u32, u32); 32] = [
 ];
 
 // Offset, in binary, and level of each data bit.
-const DATA_BIT_TO_PREFIX: [(u32, u32); 31] = [
+static DATA_BIT_TO_PREFIX: [(u32, u32); 31] = [
     (0b0000, 0),
     (0b0000, 1),
     (0b1000, 1),
