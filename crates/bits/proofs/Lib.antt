@@ -4,3 +4,4 @@ pub mod OneBit
 pub mod Slots
 pub mod Words
 pub mod Ends
+pub mod Numbers

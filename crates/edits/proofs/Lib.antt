@@ -1,3 +1,4 @@
 pub mod AddingLengths
 pub mod WayUp
 pub mod Removals
+pub mod Written

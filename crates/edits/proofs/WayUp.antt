@@ -7,7 +7,8 @@ use native.Mathlib.Nat.{not-suc-le-zero}
 use native.Mathlib.Omega.{arith}
 use borrow.Author.Tests.{ne_eqb, leb-true}
 use lib.Dec.{leb, eqb}
-use lib.ListN.{get_or}
+use lib.ListN.{length, get_or}
+use lib.Seq.{set-get_or, get_or-set_same}
 use Rattle.bits.specs.Bits.{count}
 use Rattle.tiers.specs.Tiers.{stride, child_top}
 use Rattle.node.specs.declared.MultiBitNode.{MultiBitNode}
@@ -19,6 +20,10 @@ use Rattle.blocks.specs.Asks.{shrink_found}
 use Rattle.blocks.proofs.Shape.{InShape}
 use Rattle.blocks.proofs.Climb.{like_same, shrink_same, Climbed, found, climbed_shrink, climbed_pool, climbed_back}
 use Rattle.edits.specs.Removing.{last_child, up_of, prune_ask_of, prune_of}
+
+-- an entry within a list is the same for every default
+pub within_list : {A : Type 0} (l : List A) (i : ℕ) (a b : A) → i < length l → get_or l i a ≡ get_or l i b
+within_list {A} l i a b h = ap (λ (m : List A). get_or m i a) (sym (set-get_or l i b)) ∙ get_or-set_same l i (get_or l i b) a h
 
 -- where no single has come back, the number on the list as found is that of the shrinkage
 pub ask_alone : (p : Pool) (top lim : ℕ) (l : List ℕ) (old c : ℕ) → shrink_found p top lim l false old c ≡ shrink_ask_of p top lim l old c

@@ -4,3 +4,6 @@ pub mod Walking
 pub mod Unchanged
 pub mod Pinned
 pub mod Refusing
+pub mod InsertWays
+pub mod RemovalWays
+pub mod Begun

@@ -1,6 +1,6 @@
--- From a sight to an answer: why the rule's cell may be read. Assumes nothing.
+-- From a sight to an answer: the answer of a rule that was seen, and why its cell may be read. Assumes nothing.
 use mathlib.Core.Path.{◌≡◌, sym, subst}
-use mathlib.Core.Bool.{true}
+use mathlib.Core.Bool.{Bool, true}
 use mathlib.Core.List.{List}
 use Prim.Native.Nat.{ℕ, ◌+◌, ◌≤◌, ◌<◌}
 use native.Mathlib.Omega.{arith}
@@ -8,8 +8,10 @@ use lib.ListN.{length}
 use borrow.Author.Tests.{eqb-true}
 use Rattle.bits.specs.Bits.{bit_at, count, set_below}
 use Rattle.bits.proofs.BitByBit.{bit_above}
-use Rattle.prefix.specs.Prefix.{width}
+use Rattle.prefix.specs.Prefix.{width, masked}
 use Rattle.places.proofs.Prefixes.{data_lt}
+use Rattle.store.specs.declared.Cell.{Cell}
+use Rattle.store.specs.Words.{cell_at}
 use Rattle.walk.specs.declared.Sight.{Sight}
 use Rattle.walk.specs.declared.Rule.{Rule}
 use Rattle.std.specs.Prelude.{Option, Some, None, Result, Ok, Err}
@@ -18,6 +20,8 @@ use Rattle.walk.specs.Steps.{data_within}
 use Rattle.walk.specs.Sights.{Told, ToldIf, Seen}
 use Rattle.walk.proofs.Within.{cell_below}
 use Rattle.walk.proofs.Visits.{visited_le}
+use Rattle.map.specs.declared.Answer.TheVariants.{Found}
+use Rattle.map.specs.Lookups.{answer_of, told_of}
 
 -- what a sight of a query says holds of the longest length too
 pub seen_whole : (key len : ℕ) → len ≤ width → (s : Result Sight Refusal) → Seen key len s → Seen key width s
@@ -44,3 +48,12 @@ module _ (key : ℕ) (rule : Rule) (t : Told key width rule) where
       let v = rule_bit in
       let p = cell_below lim rule.bitmap rule.cells.0 rule.bit (bit_above 31 31 t.small (omega arith)) f (omega arith) (eqb-true (bit_at rule.bitmap rule.bit) 1 t.set) in
       omega arith
+
+module _ (s : Result Sight Refusal) (cells : List ℕ) (lim key : ℕ) (seen : Sight) (rule : Rule) (e : s ≡ Ok seen) (er : seen.rule ≡ Some rule) where
+  -- the rule's block is wholly below the mark: key and value worked out in steps
+  pub answer_found :
+      (w : Bool) → w ≡ data_within lim (count rule.bitmap) rule.cells.0 → w ≡ true → (k : ℕ) → k ≡ masked key rule.len
+      → (i : ℕ) → i ≡ rule.cells.0 + set_below rule.bitmap rule.bit → (c : Cell) → c ≡ cell_at cells i
+      → Found k rule.len c.value seen.visits ≡ answer_of s cells lim key
+  unfolding answer_of told_of
+  answer_found w ew f k ek i ei c ec = rw (e, er, ek, ec, ei) (simp (← ew, f))

@@ -51,3 +51,8 @@ rest_below key d =
     let x : ℕ = key * 2 ^ d in
     let e : x % 2 ^ width * 2 ^ stride % 2 ^ width ≡ x * 2 ^ stride % 2 ^ width = omega arith in
     e ∙ ap (λ (y : ℕ). y % 2 ^ width) (mul_assoc key (2 ^ d) (2 ^ stride) ∙ ap (λ (y : ℕ). key * y) (sym (pow-add 2 d stride)))
+
+-- at the root all of the key is left
+pub rest_root : (key : ℕ) → key < 2 ^ width → key ≡ rest_at key 0
+unfolding rest_at
+rest_root key h = omega arith

@@ -1,3 +1,5 @@
+pub mod Operations
+pub mod Good
 pub mod Replies
 pub mod Playing
 pub mod Outputs

@@ -1,5 +1,5 @@
--- A number names one refusal, and an outcome with no value is fixed by its number. Assumes nothing.
-use Rattle.std.specs.Prelude.{ℕ, ◌<◌, cond, eqb, Ok, Err, Result}
+-- A number names one refusal; an outcome is fixed by its number, and by its value where a clause tells that. Assumes nothing.
+use Rattle.std.specs.Prelude.{ℕ, ◌<◌, cond, eqb, Ok, Err, Result, IfOk}
 use mathlib.Core.Path.{◌≡◌, refl, sym, ◌∙◌, ap}
 use native.Mathlib.Omega.{arith}
 use Rattle.refusals.specs.declared.Refusal.{Refusal}
@@ -36,3 +36,10 @@ ended_same (Ok x) (Ok y) e = refl
 ended_same (Ok x) (Err b) e = absurd (omega (arith, number_some b, e))
 ended_same (Err a) (Ok y) e = absurd (omega (arith, number_some a, e))
 ended_same (Err a) (Err b) e = ap Err (number_same a b e)
+
+-- one with a value is fixed by its number and that value
+pub valued_same : {A : Type 0} (r s : Result A Refusal) (x : A) → ended r ≡ ended s → IfOk r (λ p. p ≡ x) → IfOk s (λ p. p ≡ x) → r ≡ s
+valued_same (Ok a) (Ok b) x e h k = ap Ok (h ∙ sym k)
+valued_same (Ok a) (Err q) x e h k = absurd (omega (arith, number_some q, e))
+valued_same (Err p) (Ok b) x e h k = absurd (omega (arith, number_some p, e))
+valued_same (Err p) (Err q) x e h k = ap Err (number_same p q e)
