@@ -10,6 +10,7 @@ mod removing;
 
 pub use adding::{keep, make};
 use blocks::Pool;
+pub use halves::Half;
 pub use removing::{drop_ask, drop_rule, last_rule, prune, prune_ask};
 
 // The lowest node that was made, and the pool after.
