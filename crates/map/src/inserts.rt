@@ -108,6 +108,7 @@ impl State {
     }
 
     // The steps of an insert: the first tests, the walk, then what its end asks for.
+    #[inline(always)]
     #[tactic(auto, unfolding(crate::specs::Inserts::insert_of, crate::specs::Inserts::walked_of, crate::specs::Inserts::arrived_of))]
     fn inserted(
         &mut self,

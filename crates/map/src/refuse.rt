@@ -21,7 +21,9 @@ impl From<Refusal> for Answer {
 }
 
 impl State {
-    // An edit that ends with this state: the answer of its steps, or their refusal.
+    // An edit that ends with this state: the answer of its steps, or their refusal. (In line, as the steps are: so an edit that the first tests
+    // refuse copies no state.)
+    #[inline(always)]
     pub(crate) fn settled(self, done: Result<Answer, Refusal>) -> Edited
         ensures { result ≡ settled self done }
     {

@@ -53,6 +53,7 @@ impl State {
     }
 
     // The steps of a removal: the first tests, the walk, then the rule where it ends.
+    #[inline(always)]
     #[tactic(auto, unfolding(crate::specs::Removals::remove_of, crate::specs::Removals::walked_of))]
     fn removed(
         &mut self,

@@ -8,6 +8,7 @@ use walk::Trail;
 
 impl State {
     // The trail of a prefix, past the first tests.
+    #[inline(always)]
     pub(crate) fn walked(
         &self,
         nodes: &[u32],
